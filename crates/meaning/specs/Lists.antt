@@ -1,0 +1,49 @@
+-- Lists, and tests and facts over lists and numbers. A test is a Bool and computes; `T test` is the fact that it passes.
+use Prim.Native.Nat.{ℕ, zero, suc}
+use mathlib.Core.Bool.{Bool, true, false, cond, _&&_, _||_}
+use mathlib.Core.List.{List, [], _∷_, _++_}
+use mathlib.Core.Option.{Option, none, some}
+use lib.Dec.{eqb}
+
+module _ {A : Type 0} where
+  -- some member passes
+  abbrev pub any : (A → Bool) → List A → Bool
+  any f [] = false
+  any f (x ∷ xs) = f x || any f xs
+
+  -- every member passes
+  abbrev pub all : (A → Bool) → List A → Bool
+  all f [] = true
+  all f (x ∷ xs) = f x && all f xs
+
+  -- a fact of every member
+  abbrev pub All : (A → Type 0) → List A → Type 0
+  All P [] = Unit
+  All P (x ∷ xs) = P x × All P xs
+
+  -- the lists one after the other
+  abbrev pub joined : List (List A) → List A
+  joined [] = []
+  joined (l ∷ ls) = l ++ joined ls
+
+  -- the values at 0 to n - 1
+  abbrev pub table : ℕ → (ℕ → A) → List A
+  table zero f = []
+  table (suc n) f = f 0 ∷ table n (λ i. f (suc i))
+
+-- some number below n passes
+abbrev pub anyBelow : ℕ → (ℕ → Bool) → Bool
+anyBelow zero f = false
+anyBelow (suc n) f = anyBelow n f || f n
+
+-- the lowest number below n that passes: 01's "lowest place"
+abbrev pub lowest : ℕ → (ℕ → Bool) → Option ℕ
+lowest zero f = none
+lowest (suc n) f = elim (lowest n f) [ none ↦ cond (f n) (some n) none | some i ↦ some i ]
+
+-- the same numbers in the same order
+abbrev pub same : List ℕ → List ℕ → Bool
+same [] [] = true
+same [] (y ∷ ys) = false
+same (x ∷ xs) [] = false
+same (x ∷ xs) (y ∷ ys) = eqb x y && same xs ys

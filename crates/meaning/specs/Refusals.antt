@@ -1,0 +1,109 @@
+-- The refusals of a rule file (01, "What is handed back"): each a test named after its row, over a field and the fields before it.
+use Prim.Native.Nat.{ℕ, zero, suc}
+use mathlib.Core.Bool.{Bool, true, false, cond, not, _||_}
+use mathlib.Core.List.{List, [], _∷_, map}
+use mathlib.Core.Option.{Option, none, some}
+use lib.Dec.{eqb, leb, ltb}
+use lib.ListN.{length, getD, take, drop}
+use Rattle.meaning.specs.Lists.{any, lowest, same}
+use Rattle.meaning.specs.Limits.{Kind, symbol, type, production, predicate, clause, query, tagOf, mostOf, mostSymbolArity, mostPredicateArity, mostContent}
+use Rattle.meaning.specs.Fields.{Field, whole, cut, contentsOf}
+use Rattle.meaning.specs.Contents.{isSome, isName, isNamed, isProduction, readClause, readQuery}
+
+-- a number with its place, as a call hands them back; 0 at 0 is no refusal
+pub record Answer : Type 0 where
+  pub number : ℕ
+  pub place : ℕ
+
+-- the kind of a tag
+abbrev pub kindOf : ℕ → Option Kind
+kindOf tag =
+    cond (eqb tag 1) (some symbol) (cond (eqb tag 2) (some type) (cond (eqb tag 3) (some production)
+    (cond (eqb tag 4) (some predicate) (cond (eqb tag 5) (some clause) (cond (eqb tag 6) (some query) none)))))
+
+abbrev pub testKind : Option Kind → (Kind → Bool) → Bool
+testKind none test = false
+testKind (some k) test = test k
+
+abbrev pub contents : Kind → List Field → List (List ℕ)
+contents k fs = contentsOf (tagOf k) fs
+
+abbrev pub firstByte : List ℕ → ℕ
+firstByte content = getD content 0 0
+
+-- the arities of the symbols or of the predicates
+abbrev pub aritiesIn : Kind → List Field → List ℕ
+aritiesIn k fs = map firstByte (contents k fs)
+
+abbrev pub typesIn : List Field → ℕ
+typesIn fs = length (contents type fs)
+
+-- the names of a kind; a production, a clause and a query have none
+abbrev pub namesIn : Kind → List Field → List (List ℕ)
+namesIn symbol fs = map (drop 1) (contents symbol fs)
+namesIn type fs = contents type fs
+namesIn production fs = []
+namesIn predicate fs = map (drop 1) (contents predicate fs)
+namesIn clause fs = []
+namesIn query fs = []
+
+-- the content is as laid out, its length aside
+abbrev pub laidOut : List Field → Kind → List ℕ → Bool
+laidOut before symbol content = isNamed mostSymbolArity content
+laidOut before type content = isName content
+laidOut before production content = isProduction (typesIn before) (aritiesIn symbol before) content
+laidOut before predicate content = isNamed mostPredicateArity content
+laidOut before clause content = isSome (readClause (aritiesIn symbol before) (aritiesIn predicate before) content)
+laidOut before query content = isSome (readQuery (typesIn before) (aritiesIn symbol before) (aritiesIn predicate before) content)
+
+-- the tag of the last field, 0 if there is none
+abbrev pub lastTag : List Field → ℕ
+lastTag [] = 0
+lastTag (cut ∷ []) = 0
+lastTag (whole tag content ∷ []) = tag
+lastTag (f ∷ g ∷ fs) = lastTag (g ∷ fs)
+
+-- 2: under 3 bytes left, or the length passes the end
+abbrev pub isCut : Field → Bool
+isCut cut = true
+isCut (whole tag content) = false
+
+-- 3: tag not 1 to 6, or below the one before
+abbrev pub wrongTag : List Field → Field → Bool
+wrongTag before cut = false
+wrongTag before (whole tag content) = not (isSome (kindOf tag)) || ltb tag (lastTag before)
+
+-- 6: one more than the most of its kind
+abbrev pub tooMany : List Field → Field → Bool
+tooMany before cut = false
+tooMany before (whole tag content) = testKind (kindOf tag) (λ k. leb (mostOf k) (length (contents k before)))
+
+-- 4: content isn't as laid out
+abbrev pub malformed : List Field → Field → Bool
+malformed before cut = false
+malformed before (whole tag content) =
+    testKind (kindOf tag) (λ k. ltb mostContent (length content) || not (laidOut before k content))
+
+-- 5: name already used in its kind
+abbrev pub nameTaken : List Field → Field → Bool
+nameTaken before cut = false
+nameTaken before (whole tag content) =
+    testKind (kindOf tag) (λ k. any (λ name. any (same name) (namesIn k before)) (namesIn k (whole tag content ∷ [])))
+
+-- the number with which a field is refused, by 2, 3, 6, 4, 5; 0 if none fits
+unfoldable pub refusal : List Field → Field → ℕ
+refusal before f =
+    cond (isCut f) 2 (cond (wrongTag before f) 3 (cond (tooMany before f) 6 (cond (malformed before f) 4
+    (cond (nameTaken before f) 5 0))))
+
+-- the same at a place
+unfoldable pub refusalAt : List Field → ℕ → ℕ
+refusalAt fs k = refusal (take k fs) (getD fs k cut)
+
+-- the lowest field that is refused
+unfoldable pub firstRefused : List Field → Option ℕ
+firstRefused fs = lowest (length fs) (λ k. not (eqb (refusalAt fs k) 0))
+
+-- 7: no symbol of arity 0
+abbrev pub noConstant : List Field → Bool
+noConstant fs = not (any (λ n. eqb n 0) (aritiesIn symbol fs))
