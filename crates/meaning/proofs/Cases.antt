@@ -8,9 +8,9 @@ use lib.ListN.{length}
 use Rattle.meaning.specs.Lists.{all, same, joined}
 use Rattle.meaning.specs.Syntax.{Terms, var, app, end, _▸_, Named, Production, Atom, Clause, Condition, isOf, notOf, free, Query, Rules}
 use Rattle.meaning.specs.Encoding.{encodeRules}
-use Rattle.meaning.specs.Fields.{fields}
+use Rattle.meaning.specs.Fields.{fields, firstField}
 use Rattle.meaning.specs.Contents.{termWithin, readTerms, readAtom, readAtoms, readClause, readConditions, readQuery}
-use Rattle.meaning.specs.Refusals.{Answer, refusal, refusalAt, firstRefused}
+use Rattle.meaning.specs.Refusals.{Answer, refusal, firstRefused}
 use Rattle.meaning.specs.Types.{signature, step}
 use Rattle.meaning.specs.States.{determinise, cellOf, tables}
 use Rattle.meaning.specs.Files.{rulesIn, rulesOf, statesFor, lateAnswer, fieldsAnswer, fileAnswer}
@@ -91,18 +91,18 @@ if₁ head body = record { variables = 1; head = head; body = body ∷ [] }
 -- E's symbols, types and productions, with other predicates, clauses and queries
 evenOdd : List Named → List Clause → List Query → Rules
 evenOdd predicates clauses queries =
-    record
-      { symbols = record { arity = 0; name = 0x7A ∷ [] } ∷ record { arity = 1; name = 0x73 ∷ [] } ∷ []
-      ; types = (0x65 ∷ 0x76 ∷ 0x65 ∷ 0x6E ∷ []) ∷ (0x6F ∷ 0x64 ∷ 0x64 ∷ []) ∷ []
-      ; productions =
+    record {
+      symbols = record { arity = 0; name = 0x7A ∷ [] } ∷ record { arity = 1; name = 0x73 ∷ [] } ∷ [];
+      types = (0x65 ∷ 0x76 ∷ 0x65 ∷ 0x6E ∷ []) ∷ (0x6F ∷ 0x64 ∷ 0x64 ∷ []) ∷ [];
+      productions =
           record { target = 0; symbol = 0; arguments = [] }
           ∷ record { target = 0; symbol = 1; arguments = 1 ∷ [] }
           ∷ record { target = 1; symbol = 1; arguments = 0 ∷ [] }
-          ∷ []
-      ; predicates = predicates
-      ; clauses = clauses
-      ; queries = queries
-      }
+          ∷ [];
+      predicates = predicates;
+      clauses = clauses;
+      queries = queries;
+    }
 
 p/ : ℕ → Named
 p/ n = record { arity = n; name = 0x70 ∷ [] }
@@ -140,5 +140,5 @@ holds : Row → Bool
 holds r = same (ask (r .asked) (r .file)) (r .says)
 
 cases : T (all holds rows)
-unfolding rows holds ask E twoStates sheetE sheetG X z s atom fact if₁ evenOdd p/ q/ I J encodeRules fields termWithin readTerms readAtom readAtoms readClause readConditions readQuery refusal refusalAt firstRefused signature step determinise cellOf tables rulesIn rulesOf statesFor lateAnswer fieldsAnswer fileAnswer brings next stage rounds model isOpen encodeSheet violated checkFields sheetAnswer markedAtoms symbolArities predicateArities statesOf stepOf interpretationOf tablesOf roundsOf modelOf atomsOf verdictOf verdictsOf
+unfolding rows holds ask E twoStates sheetE sheetG X z s atom fact if₁ evenOdd p/ q/ I J encodeRules fields termWithin readTerms readAtom readAtoms readClause readConditions readQuery refusal firstField firstRefused signature step determinise cellOf tables rulesIn rulesOf statesFor lateAnswer fieldsAnswer fileAnswer brings next stage rounds model isOpen encodeSheet violated checkFields sheetAnswer markedAtoms symbolArities predicateArities statesOf stepOf interpretationOf tablesOf roundsOf modelOf atomsOf verdictOf verdictsOf
 cases = tt

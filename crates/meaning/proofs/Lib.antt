@@ -1,1 +1,4 @@
+-- The theorems, and the laws they rest on.
+pub mod Lists
+pub mod Setting
 pub mod Cases

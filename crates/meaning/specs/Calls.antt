@@ -9,7 +9,7 @@ use Rattle.meaning.specs.Syntax.{Rules, Query}
 use Rattle.meaning.specs.Legal.{arities}
 use Rattle.meaning.specs.Types.{step, bit}
 use Rattle.meaning.specs.States.{cellOf, tables}
-use Rattle.meaning.specs.Refusals.{Answer}
+use Rattle.meaning.specs.Refusals.{Answer, refused, accepted}
 use Rattle.meaning.specs.Files.{rulesOf, statesFor, fileAnswer}
 use Rattle.meaning.specs.Clauses.{marked, rounds, model, isOpen}
 use Rattle.meaning.specs.Certificates.{encodeSheet, sheetAnswer, markedAtoms, IsOrder}
@@ -60,7 +60,7 @@ abbrev pub andThen : Answer → Answer → Answer
 andThen a b = cond (ok a) b a
 
 abbrev pub refuseUnless : Bool → ℕ → Answer
-refuseUnless test number = cond test (record { number = 0; place = 0 }) (record { number = number; place = 0 })
+refuseUnless test number = cond test accepted (refused number 0)
 
 -- every count is 0 with a refusal
 abbrev pub counted : Answer → ℕ → ℕ
@@ -82,20 +82,20 @@ pub record Buffers : Type 0 where
 
 abbrev pub filled : List ℕ → Buffers → Buffers
 filled file before =
-    record
-      { states = written (statesOf file) (before .states)
-      ; tables = written (tablesOf file) (before .tables)
-      ; marks = written (modelOf file) (before .marks)
-      ; verdicts = written (verdictsOf file) (before .verdicts)
-      }
+    record {
+      states = written (statesOf file) (before .states);
+      tables = written (tablesOf file) (before .tables);
+      marks = written (modelOf file) (before .marks);
+      verdicts = written (verdictsOf file) (before .verdicts);
+    }
 
 -- 1 to 8, then 9: a buffer is shorter than needed
 unfoldable pub analysisAnswer : List ℕ → Buffers → Answer
 analysisAnswer file before =
     andThen (fileAnswer file) (refuseUnless
-      (holds (before .states) (statesOf file) && holds (before .tables) (tablesOf file) && holds (before .marks) (modelOf file)
-      && holds (before .verdicts) (verdictsOf file))
-      9)
+    (holds (before .states) (statesOf file) && holds (before .tables) (tablesOf file) && holds (before .marks) (modelOf file)
+    && holds (before .verdicts) (verdictsOf file))
+    9)
 
 pub record Analysed : Type 0 where
   pub answer : Answer
@@ -106,13 +106,13 @@ pub record Analysed : Type 0 where
 
 unfoldable pub analysed : List ℕ → Buffers → Analysed
 analysed file before =
-    record
-      { answer = analysisAnswer file before
-      ; states = counted (analysisAnswer file before) (length (statesOf file))
-      ; atoms = counted (analysisAnswer file before) (length (atomsOf file))
-      ; rounds = counted (analysisAnswer file before) (roundsOf file)
-      ; after = cond (ok (analysisAnswer file before)) (filled file before) before
-      }
+    record {
+      answer = analysisAnswer file before;
+      states = counted (analysisAnswer file before) (length (statesOf file));
+      atoms = counted (analysisAnswer file before) (length (atomsOf file));
+      rounds = counted (analysisAnswer file before) (roundsOf file);
+      after = cond (ok (analysisAnswer file before)) (filled file before) before;
+    }
 
 -- the answer to writing a sheet: as to an analysis, then 14: the sheet's buffer is too short
 unfoldable pub writingAnswer : List ℕ → Buffers → List ℕ → Answer
@@ -135,15 +135,15 @@ OrderOf file order = IsOrder (length (statesOf file)) (predicateArities file) (m
 -- writing a sheet, with the atoms in some order; with 14 the buffers other than the sheet are as for 0
 unfoldable pub writtenIn : List (List ℕ) → List ℕ → Buffers → List ℕ → Written
 writtenIn order file before sheet =
-    record
-      { answer = writingAnswer file before sheet
-      ; states = counted (writingAnswer file before sheet) (length (statesOf file))
-      ; atoms = counted (writingAnswer file before sheet) (length (atomsOf file))
-      ; rounds = counted (writingAnswer file before sheet) (roundsOf file)
-      ; bytes = counted (writingAnswer file before sheet) (length (encodeSheet (statesOf file) (atomsOf file)))
-      ; after = cond (ok (analysisAnswer file before)) (filled file before) before
-      ; sheet = cond (ok (writingAnswer file before sheet)) (written (encodeSheet (statesOf file) order) sheet) sheet
-      }
+    record {
+      answer = writingAnswer file before sheet;
+      states = counted (writingAnswer file before sheet) (length (statesOf file));
+      atoms = counted (writingAnswer file before sheet) (length (atomsOf file));
+      rounds = counted (writingAnswer file before sheet) (roundsOf file);
+      bytes = counted (writingAnswer file before sheet) (length (encodeSheet (statesOf file) (atomsOf file)));
+      after = cond (ok (analysisAnswer file before)) (filled file before) before;
+      sheet = cond (ok (writingAnswer file before sheet)) (written (encodeSheet (statesOf file) order) sheet) sheet;
+    }
 
 -- what a sheet check is lent: table cells and marks
 pub record Lent : Type 0 where
@@ -159,7 +159,7 @@ lentAnswer file before =
 unfoldable pub checkAnswer : List ℕ → List ℕ → Lent → Answer
 checkAnswer file sheet before =
     andThen (lentAnswer file before)
-      (sheetAnswer (statesOf file) (interpretationOf file) (predicateArities file) (rulesOf file .clauses) sheet)
+    (sheetAnswer (statesOf file) (interpretationOf file) (predicateArities file) (rulesOf file .clauses) sheet)
 
 pub record Checked : Type 0 where
   pub answer : Answer
@@ -168,14 +168,14 @@ pub record Checked : Type 0 where
 -- with 0 and 10 to 13 the needed table cells hold the file's tables, and the needed marks are zero
 unfoldable pub checked : List ℕ → List ℕ → Lent → Checked
 checked file sheet before =
-    record
-      { answer = checkAnswer file sheet before
-      ; after =
+    record {
+      answer = checkAnswer file sheet before;
+      after =
           cond
-            (ok (lentAnswer file before))
-            (record
-              { tables = written (tablesOf file) (before .tables)
-              ; marks = written (replicate (length (modelOf file)) 0) (before .marks)
-              })
-            before
-      }
+          (ok (lentAnswer file before))
+          (record {
+            tables = written (tablesOf file) (before .tables);
+            marks = written (replicate (length (modelOf file)) 0) (before .marks);
+          })
+          before;
+    }

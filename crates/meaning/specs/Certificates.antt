@@ -6,13 +6,13 @@ use mathlib.Core.Bool.{Bool, true, false, cond, not, _&&_, _||_}
 use mathlib.Core.List.{List, [], _∷_, _++_, map, List·Memᴰ, List·Permᴰ}
 use mathlib.Core.Option.{Option, none, some}
 use lib.Dec.{T, eqb, leb, ltb}
-use lib.ListN.{length, getD, take}
+use lib.ListN.{length, getD}
 use Rattle.meaning.specs.Lists.{any, all, anyBelow, All, same, lowest, joined, table}
 use Rattle.meaning.specs.Syntax.{Clause}
 use Rattle.meaning.specs.Limits.{stateTag, atomTag}
-use Rattle.meaning.specs.Fields.{Field, whole, cut, word, fields, contentsOf, encodeField}
+use Rattle.meaning.specs.Fields.{Field, whole, cut, word, fields, contentsOf, encodeField, firstField}
 use Rattle.meaning.specs.Contents.{declared}
-use Rattle.meaning.specs.Refusals.{Answer}
+use Rattle.meaning.specs.Refusals.{Answer, refused, accepted}
 use Rattle.meaning.specs.Legal.{NoneTwice}
 use Rattle.meaning.specs.Cells.{rowOf}
 use Rattle.meaning.specs.Clauses.{AtomSet, IsAtom, Closed, instanceIn, marked}
@@ -64,9 +64,9 @@ abbrev pub misplaced : List ℕ → List Field → Field → Bool
 misplaced preds before cut = true
 misplaced preds before (whole tag content) =
     cond
-      (eqb tag stateTag)
-      (ltb 0 (length (contentsOf atomTag before)) || not (eqb (length content) 2))
-      (cond (eqb tag atomTag) (not (isAtomContent preds content)) true)
+    (eqb tag stateTag)
+    (ltb 0 (length (contentsOf atomTag before)) || not (eqb (length content) 2))
+    (cond (eqb tag atomTag) (not (isAtomContent preds content)) true)
 
 -- 11: the states of the sheet and of the file differ at a place, a missing or extra one included
 abbrev pub statesIn : List Field → List ℕ
@@ -89,10 +89,10 @@ among atoms p row = any (same (p ∷ row)) atoms
 unfoldable pub violated : ℕ → (ℕ → List ℕ → ℕ) → List (List ℕ) → Clause → Bool
 violated m interpret atoms c =
     anyBelow
-      (m ^ c .variables)
-      (λ n.
-        let ν = rowOf m (c .variables) n in
-        all (instanceIn interpret ν (among atoms)) (c .body) && not (instanceIn interpret ν (among atoms) (c .head)))
+    (m ^ c .variables)
+    (λ n.
+    let ν = rowOf m (c .variables) n in
+    all (instanceIn interpret ν (among atoms)) (c .body) && not (instanceIn interpret ν (among atoms) (c .head)))
 
 abbrev pub violatedAt : ℕ → (ℕ → List ℕ → ℕ) → List (List ℕ) → List Clause → ℕ → Bool
 violatedAt m interpret atoms [] i = false
@@ -101,18 +101,18 @@ violatedAt m interpret atoms (c ∷ clauses) (suc i) = violatedAt m interpret at
 
 -- a refusal at the lowest place that a test fits, if there is one, else what comes after
 abbrev pub refusedAt : ℕ → Option ℕ → Answer → Answer
-refusedAt number (some place) after = record { number = number; place = place }
+refusedAt number (some place) after = refused number place
 refusedAt number none after = after
 
 -- the check's answer over the fields: 10 over the whole sheet, then 11, 12, 13, each at the lowest place that it fits
 module _ (states : List ℕ) (interpret : ℕ → List ℕ → ℕ) (preds : List ℕ) (clauses : List Clause) where
   unfoldable pub checkFields : List Field → Answer
   checkFields fs =
-      refusedAt 10 (lowest (length fs) (λ k. misplaced preds (take k fs) (getD fs k cut)))
+      refusedAt 10 (firstField (misplaced preds) fs)
       (refusedAt 11 (lowest (max (length (statesIn fs)) (length states)) (differ (statesIn fs) states))
-      (refusedAt 12 (lowest (length fs) (λ k. wrongAtom (length states) (take k fs) (getD fs k cut)))
+      (refusedAt 12 (firstField (wrongAtom (length states)) fs)
       (refusedAt 13 (lowest (length clauses) (violatedAt (length states) interpret (contentsOf atomTag fs) clauses))
-      (record { number = 0; place = 0 }))))
+      accepted)))
 
   unfoldable pub sheetAnswer : List ℕ → Answer
   sheetAnswer sheet = checkFields (fields sheet)

@@ -66,12 +66,12 @@ module _ (arities : List ℕ) (variables : ℕ) where
     termWithin zero bytes = none
     termWithin (suc k) [] = none
     termWithin (suc k) (b ∷ bytes) =
-        elim (leb firstVariable b)
-          [ true ↦ provided (ltb (b - firstVariable) variables) (some (record { value = var (b - firstVariable); rest = bytes }))
+        elim (leb firstVariable b) [
+          | true ↦ provided (ltb (b - firstVariable) variables) (some (record { value = var (b - firstVariable); rest = bytes }))
           | false ↦ provided (ltb b (length arities)) do
-              ts ← termsWithin k (getD arities b 0) bytes
-              some (record { value = app b (ts .value); rest = ts .rest })
-          ]
+            ts ← termsWithin k (getD arities b 0) bytes
+            some (record { value = app b (ts .value); rest = ts .rest })
+        ]
 
     pub termsWithin : ℕ → ℕ → List ℕ → Option (Read Terms)
     termsWithin zero n bytes = none

@@ -1,10 +1,16 @@
 -- Bytes as fields (01: a tag of one byte, a length of two bytes, high byte first, then that many content bytes), for rule files and
 -- sheets alike.
-use Prim.Native.Nat.{ℕ, zero, suc, _+_, _*_, _/_, _%_}
-use mathlib.Core.Bool.{cond}
+use Prim.Native.Nat.{ℕ, zero, suc, _+_, _*_, _/_, _%_, _<_}
+use mathlib.Core.Bool.{Bool, cond}
 use mathlib.Core.List.{List, [], _∷_, _++_}
+use mathlib.Core.Option.{Option}
 use lib.Dec.{eqb, leb}
-use lib.ListN.{length, take, drop}
+use lib.ListN.{length, getD, take, drop}
+use Rattle.meaning.specs.Lists.{All, lowest}
+
+-- numbers that are bytes
+abbrev pub Bytes : List ℕ → Type 0
+Bytes numbers = All (λ b. b < 256) numbers
 
 pub data Field : Type 0 where
   -- tag and content
@@ -52,3 +58,7 @@ contentsOf tag (whole t content ∷ fs) = cond (eqb t tag) (content ∷ []) [] +
 -- a field as bytes
 abbrev pub encodeField : ℕ → List ℕ → List ℕ
 encodeField tag content = tag ∷ length content / 256 ∷ length content % 256 ∷ content
+
+-- the lowest field that passes a test over the fields before it and the field itself
+unfoldable pub firstField : (List Field → Field → Bool) → List Field → Option ℕ
+firstField test fs = lowest (length fs) (λ k. test (take k fs) (getD fs k cut))

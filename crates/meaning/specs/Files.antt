@@ -4,12 +4,12 @@ use mathlib.Core.Bool.{Bool, cond}
 use mathlib.Core.List.{List, [], _∷_, _++_, map}
 use mathlib.Core.Option.{Option, none, some}
 use lib.Dec.{ltb}
-use lib.ListN.{length, getD, drop}
+use lib.ListN.{length, getD, take, drop}
 use Rattle.meaning.specs.Syntax.{Named, Production, Rules}
 use Rattle.meaning.specs.Limits.{symbol, type, production, predicate, clause, query, mostFileBytes, mostStates}
-use Rattle.meaning.specs.Fields.{Field, fields}
+use Rattle.meaning.specs.Fields.{Field, cut, fields}
 use Rattle.meaning.specs.Contents.{readClause, readQuery}
-use Rattle.meaning.specs.Refusals.{Answer, contents, firstByte, aritiesIn, typesIn, refusalAt, firstRefused, noConstant}
+use Rattle.meaning.specs.Refusals.{Answer, refused, accepted, contents, firstByte, aritiesIn, typesIn, refusal, firstRefused, noConstant}
 use Rattle.meaning.specs.Legal.{arities}
 use Rattle.meaning.specs.Types.{step, signature}
 use Rattle.meaning.specs.States.{determinise}
@@ -28,14 +28,14 @@ productionOf content = record { target = firstByte content; symbol = getD conten
 -- the rules in some fields
 unfoldable pub rulesIn : List Field → Rules
 rulesIn fs =
-    record
-      { symbols = map named (contents symbol fs)
-      ; types = contents type fs
-      ; productions = map productionOf (contents production fs)
-      ; predicates = map named (contents predicate fs)
-      ; clauses = readAll (readClause (aritiesIn symbol fs) (aritiesIn predicate fs)) (contents clause fs)
-      ; queries = readAll (readQuery (typesIn fs) (aritiesIn symbol fs) (aritiesIn predicate fs)) (contents query fs)
-      }
+    record {
+      symbols = map named (contents symbol fs);
+      types = contents type fs;
+      productions = map productionOf (contents production fs);
+      predicates = map named (contents predicate fs);
+      clauses = readAll (readClause (aritiesIn symbol fs) (aritiesIn predicate fs)) (contents clause fs);
+      queries = readAll (readQuery (typesIn fs) (aritiesIn symbol fs) (aritiesIn predicate fs)) (contents query fs);
+    }
 
 unfoldable pub rulesOf : List ℕ → Rules
 rulesOf file = rulesIn (fields file)
@@ -47,18 +47,19 @@ statesFor symbols types productions = determinise (step productions types) (sign
 -- 7 and 8: no symbol of arity 0; more than 16 states exist
 unfoldable pub lateAnswer : List Field → Answer
 lateAnswer fs =
-    cond (noConstant fs) (record { number = 7; place = length fs })
-    (cond (ltb mostStates (length (statesFor (aritiesIn symbol fs) (typesIn fs) (map productionOf (contents production fs)))))
-      (record { number = 8; place = length fs })
-      (record { number = 0; place = 0 }))
+    cond (noConstant fs) (refused 7 (length fs))
+    (cond
+    (ltb mostStates (length (statesFor (aritiesIn symbol fs) (typesIn fs) (map productionOf (contents production fs)))))
+    (refused 8 (length fs))
+    accepted)
 
 abbrev pub answerAt : List Field → Option ℕ → Answer
 answerAt fs none = lateAnswer fs
-answerAt fs (some k) = record { number = refusalAt fs k; place = k }
+answerAt fs (some k) = refused (refusal (take k fs) (getD fs k cut)) k
 
 unfoldable pub fieldsAnswer : List Field → Answer
 fieldsAnswer fs = answerAt fs (firstRefused fs)
 
--- a file is accepted if the answer is 0 at 0
+-- the file is accepted, or refused with this number at this place
 unfoldable pub fileAnswer : List ℕ → Answer
-fileAnswer file = cond (ltb mostFileBytes (length file)) (record { number = 1; place = 0 }) (fieldsAnswer (fields file))
+fileAnswer file = cond (ltb mostFileBytes (length file)) (refused 1 0) (fieldsAnswer (fields file))

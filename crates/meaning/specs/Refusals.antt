@@ -4,16 +4,23 @@ use mathlib.Core.Bool.{Bool, true, false, cond, not, _||_}
 use mathlib.Core.List.{List, [], _∷_, map}
 use mathlib.Core.Option.{Option, none, some}
 use lib.Dec.{eqb, leb, ltb}
-use lib.ListN.{length, getD, take, drop}
-use Rattle.meaning.specs.Lists.{any, lowest, same}
+use lib.ListN.{length, getD, drop}
+use Rattle.meaning.specs.Lists.{any, same}
 use Rattle.meaning.specs.Limits.{Kind, symbol, type, production, predicate, clause, query, tagOf, mostOf, mostSymbolArity, mostPredicateArity, mostContent}
-use Rattle.meaning.specs.Fields.{Field, whole, cut, contentsOf}
+use Rattle.meaning.specs.Fields.{Field, whole, cut, contentsOf, firstField}
 use Rattle.meaning.specs.Contents.{isSome, isName, isNamed, isProduction, readClause, readQuery}
 
--- a number with its place, as a call hands them back; 0 at 0 is no refusal
+-- a number with its place, as a call hands them back
 pub record Answer : Type 0 where
   pub number : ℕ
   pub place : ℕ
+
+abbrev pub refused : ℕ → ℕ → Answer
+refused number place = record { number = number; place = place }
+
+-- 0, place 0
+abbrev pub accepted : Answer
+accepted = refused 0 0
 
 -- the kind of a tag
 abbrev pub kindOf : ℕ → Option Kind
@@ -96,13 +103,9 @@ refusal before f =
     cond (isCut f) 2 (cond (wrongTag before f) 3 (cond (tooMany before f) 6 (cond (malformed before f) 4
     (cond (nameTaken before f) 5 0))))
 
--- the same at a place
-unfoldable pub refusalAt : List Field → ℕ → ℕ
-refusalAt fs k = refusal (take k fs) (getD fs k cut)
-
 -- the lowest field that is refused
 unfoldable pub firstRefused : List Field → Option ℕ
-firstRefused fs = lowest (length fs) (λ k. not (eqb (refusalAt fs k) 0))
+firstRefused fs = firstField (λ before f. not (eqb (refusal before f) 0)) fs
 
 -- 7: no symbol of arity 0
 abbrev pub noConstant : List Field → Bool

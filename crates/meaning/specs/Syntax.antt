@@ -4,7 +4,6 @@ use Prim.Native.Nat.{ℕ, suc}
 use mathlib.Core.List.{List}
 
 infixr 67 _▸_ _▹_
-
 -- a term: a variable, or a symbol followed by its list of arguments; a list is a term followed by the rest
 mutual
   pub data Term : Type 0 where
