@@ -45,16 +45,14 @@ unfoldable pub statesFor : List ℕ → ℕ → List Production → List ℕ
 statesFor symbols types productions = determinise (step productions types) (signature symbols)
 
 -- 7 and 8: no symbol of arity 0; more than 16 states exist
-unfoldable pub lateAnswer : List Field → Answer
-lateAnswer fs =
-    cond (noConstant fs) (refused 7 (length fs))
-    (cond
-    (ltb mostStates (length (statesFor (aritiesIn symbol fs) (typesIn fs) (map productionOf (contents production fs)))))
-    (refused 8 (length fs))
-    accepted)
+unfoldable pub lateAnswer : List ℕ → ℕ → List Production → ℕ → Answer
+lateAnswer symbols types productions count =
+    cond (noConstant symbols) (refused 7 count)
+    (cond (ltb mostStates (length (statesFor symbols types productions))) (refused 8 count) accepted)
 
 abbrev pub answerAt : List Field → Option ℕ → Answer
-answerAt fs none = lateAnswer fs
+answerAt fs none =
+    lateAnswer (arities (rulesIn fs .symbols)) (length (rulesIn fs .types)) (rulesIn fs .productions) (length fs)
 answerAt fs (some k) = refused (refusal (take k fs) (getD fs k cut)) k
 
 unfoldable pub fieldsAnswer : List Field → Answer

@@ -108,5 +108,5 @@ unfoldable pub firstRefused : List Field → Option ℕ
 firstRefused fs = firstField (λ before f. not (eqb (refusal before f) 0)) fs
 
 -- 7: no symbol of arity 0
-abbrev pub noConstant : List Field → Bool
-noConstant fs = not (any (λ n. eqb n 0) (aritiesIn symbol fs))
+abbrev pub noConstant : List ℕ → Bool
+noConstant arities = not (any (λ n. eqb n 0) arities)
