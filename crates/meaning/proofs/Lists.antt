@@ -40,6 +40,10 @@ pub not-not : (b : Bool) → T (not (not b)) → T b
 not-not true t = tt
 not-not false t = t
 
+pub not-not-intro : (b : Bool) → T b → T (not (not b))
+not-not-intro true t = tt
+not-not-intro false t = t
+
 pub not-intro : (b : Bool) → (T b → ⊥) → T (not b)
 not-intro true f = f tt
 not-intro false f = tt

@@ -1,0 +1,320 @@
+-- The answer to a file is the first number of 01's table that fits, at the lowest place where it fits. Assumes nothing.
+use Prim.Native.Nat.{ℕ, zero, suc, _≤_, _<_}
+use mathlib.Core.Path.{_≡_, refl, sym, ap, ap₂, subst, subst₂, _∙_}
+use mathlib.Core.Logic.{_⊎_, inl, inr, ⊎-elim, _↔_, _≢_}
+use mathlib.Core.Bool.{Bool, true, false, cond, not, _&&_}
+use mathlib.Core.List.{List, [], _∷_, List·Memᴰ, Memᴰ·cast}
+use mathlib.Core.Option.{Option, none, some}
+use native.Mathlib.Omega.{arith}
+use lib.Dec.{T, eqb, leb, ltb, ltb→lt, lt→ltb, nltb→le, eqb→eq, eqb-refl}
+use lib.Arith.{le→nltb}
+use lib.ListN.{length, getD, take}
+use Rattle.meaning.specs.Lists.{any, lowest}
+use Rattle.meaning.specs.Syntax.{Production}
+use Rattle.meaning.specs.Limits.{mostFileBytes, mostStates}
+use Rattle.meaning.specs.Fields.{Field, cut, fields, firstField}
+use Rattle.meaning.specs.Refusals.{Answer, refused, accepted, isCut, wrongTag, tooMany, malformed, nameTaken, refusal, firstRefused, noConstant}
+use Rattle.meaning.specs.Legal.{arities}
+use Rattle.meaning.specs.Files.{rulesIn, rulesOf, statesFor, lateAnswer, answerAt, fieldsAnswer, fileAnswer}
+use Rattle.meaning.proofs.Lists.{clash, not-not, not-not-intro, not-intro, decide, any-find, any-give, Lowest, lowest-law, lowest-is, lowest-none, cond-yes, cond-no}
+
+-- n is the number of the first of five tests that passes: 2, 3, 6, 4, 5
+abbrev pub FirstOf : Bool → Bool → Bool → Bool → Bool → ℕ → Type 0
+FirstOf two three six four five n =
+    ((n ≡ 2) × T two)
+    ⊎ (((n ≡ 3) × T (not two) × T three)
+    ⊎ (((n ≡ 6) × T (not two) × T (not three) × T six)
+    ⊎ (((n ≡ 4) × T (not two) × T (not three) × T (not six) × T four)
+    ⊎ ((n ≡ 5) × T (not two) × T (not three) × T (not six) × T (not four) × T five))))
+
+-- none of the five passes
+abbrev pub NoneOf : Bool → Bool → Bool → Bool → Bool → Type 0
+NoneOf two three six four five = T (not two) × T (not three) × T (not six) × T (not four) × T (not five)
+
+-- a field, after the fields before it: no number fits it; the first that fits it is n
+abbrev pub Fine : List Field → Field → Type 0
+Fine before f = NoneOf (isCut f) (wrongTag before f) (tooMany before f) (malformed before f) (nameTaken before f)
+
+abbrev pub RefusedWith : List Field → Field → ℕ → Type 0
+RefusedWith before f n = FirstOf (isCut f) (wrongTag before f) (tooMany before f) (malformed before f) (nameTaken before f) n
+
+-- the field at place k is the lowest that a number fits, and the first that fits it is n
+pub record FirstRefusal (fs : List Field) (n k : ℕ) : Type 0 where
+  pub inside : k < length fs
+  pub here : RefusedWith (take k fs) (getD fs k cut) n
+  pub lower : (j : ℕ) → j < k → Fine (take j fs) (getD fs j cut)
+
+choose : (a b c d e : Bool) → ℕ
+choose a b c d e = cond a 2 (cond b 3 (cond c 6 (cond d 4 (cond e 5 0))))
+
+choose-cases : (a b c d e : Bool) → (NoneOf a b c d e × (choose a b c d e ≡ 0)) ⊎ FirstOf a b c d e (choose a b c d e)
+unfolding choose
+choose-cases true b c d e = inr (inl (refl, tt))
+choose-cases false true c d e = inr (inr (inl (refl, tt, tt)))
+choose-cases false false true d e = inr (inr (inr (inl (refl, tt, tt, tt))))
+choose-cases false false false true e = inr (inr (inr (inr (inl (refl, tt, tt, tt, tt)))))
+choose-cases false false false false true = inr (inr (inr (inr (inr (refl, tt, tt, tt, tt, tt)))))
+choose-cases false false false false false = inl ((tt, tt, tt, tt, tt), refl)
+
+choose-is : (a b c d e : Bool) (n : ℕ) → FirstOf a b c d e n → choose a b c d e ≡ n
+unfolding choose
+choose-is a b c d e n (inl h) = cond-yes a 2 _ (h .1) ∙ sym (h .0)
+choose-is a b c d e n (inr (inl h)) = cond-no a 2 _ (h .1) ∙ (cond-yes b 3 _ (h .2) ∙ sym (h .0))
+choose-is a b c d e n (inr (inr (inl h))) = cond-no a 2 _ (h .1) ∙ (cond-no b 3 _ (h .2) ∙ (cond-yes c 6 _ (h .3) ∙ sym (h .0)))
+choose-is a b c d e n (inr (inr (inr (inl h)))) =
+    cond-no a 2 _ (h .1) ∙ (cond-no b 3 _ (h .2) ∙ (cond-no c 6 _ (h .3) ∙ (cond-yes d 4 _ (h .4) ∙ sym (h .0))))
+choose-is a b c d e n (inr (inr (inr (inr h)))) =
+    cond-no a 2 _ (h .1) ∙ (cond-no b 3 _ (h .2) ∙ (cond-no c 6 _ (h .3) ∙ (cond-no d 4 _ (h .4) ∙ (cond-yes e 5 _ (h .5) ∙ sym (h .0)))))
+
+choose-none : (a b c d e : Bool) → NoneOf a b c d e → choose a b c d e ≡ 0
+unfolding choose
+choose-none a b c d e h =
+    cond-no a 2 _ (h .0) ∙ (cond-no b 3 _ (h .1) ∙ (cond-no c 6 _ (h .2) ∙ (cond-no d 4 _ (h .3) ∙ cond-no e 5 0 (h .4))))
+
+first-pos : (a b c d e : Bool) (n : ℕ) → FirstOf a b c d e n → n ≢ 0
+first-pos a b c d e n (inl h) = let q = h .0 in omega arith
+first-pos a b c d e n (inr (inl h)) = let q = h .0 in omega arith
+first-pos a b c d e n (inr (inr (inl h))) = let q = h .0 in omega arith
+first-pos a b c d e n (inr (inr (inr (inl h)))) = let q = h .0 in omega arith
+first-pos a b c d e n (inr (inr (inr (inr h)))) = let q = h .0 in omega arith
+
+-- the number of a field, by 01's order
+pub refusal-cases : (before : List Field) (f : Field) → (Fine before f × (refusal before f ≡ 0)) ⊎ RefusedWith before f (refusal before f)
+unfolding refusal choose
+refusal-cases before f = choose-cases (isCut f) (wrongTag before f) (tooMany before f) (malformed before f) (nameTaken before f)
+
+pub refusal-is : (before : List Field) (f : Field) (n : ℕ) → RefusedWith before f n → refusal before f ≡ n
+unfolding refusal choose
+refusal-is before f n h = choose-is (isCut f) (wrongTag before f) (tooMany before f) (malformed before f) (nameTaken before f) n h
+
+pub refusal-fine : (before : List Field) (f : Field) → Fine before f → refusal before f ≡ 0
+unfolding refusal choose
+refusal-fine before f h = choose-none (isCut f) (wrongTag before f) (tooMany before f) (malformed before f) (nameTaken before f) h
+
+pub refusal-pos : (before : List Field) (f : Field) (n : ℕ) → RefusedWith before f n → n ≢ 0
+refusal-pos before f n h = first-pos (isCut f) (wrongTag before f) (tooMany before f) (malformed before f) (nameTaken before f) n h
+
+pub fine-refusal : (before : List Field) (f : Field) → refusal before f ≡ 0 → Fine before f
+fine-refusal before f e = ⊎-elim (λ h. h .0) (λ h. absurd (refusal-pos before f (refusal before f) h e)) (refusal-cases before f)
+
+-- the test that `firstRefused` makes
+isRefused : List Field → Field → Bool
+isRefused before f = not (eqb (refusal before f) 0)
+
+abbrev refusedIn : List Field → ℕ → Bool
+refusedIn fs k = isRefused (take k fs) (getD fs k cut)
+
+refused-number : (before : List Field) (f : Field) → T (isRefused before f) → RefusedWith before f (refusal before f)
+unfolding isRefused
+refused-number before f t =
+    ⊎-elim (λ h. absurd (clash (eqb (refusal before f) 0) (subst (λ (n : ℕ). T (eqb n 0)) (sym (h .1)) tt) t)) (λ h. h) (refusal-cases before f)
+
+number-refused : (before : List Field) (f : Field) (n : ℕ) → RefusedWith before f n → T (isRefused before f)
+unfolding isRefused
+number-refused before f n h =
+    not-intro (eqb (refusal before f) 0) (λ t. refusal-pos before f n h (sym (refusal-is before f n h) ∙ eqb→eq (refusal before f) 0 t))
+
+not-refused : (before : List Field) (f : Field) → T (not (isRefused before f)) → Fine before f
+unfolding isRefused
+not-refused before f t = fine-refusal before f (eqb→eq (refusal before f) 0 (not-not (eqb (refusal before f) 0) t))
+
+fine-not-refused : (before : List Field) (f : Field) → Fine before f → T (not (isRefused before f))
+unfolding isRefused
+fine-not-refused before f h = subst (λ (n : ℕ). T (not (not (eqb n 0)))) (sym (refusal-fine before f h)) tt
+
+-- the lowest field that is refused
+pub first-refused : (fs : List Field) (k : ℕ) → firstRefused fs ≡ some k → FirstRefusal fs (refusal (take k fs) (getD fs k cut)) k
+unfolding firstRefused firstField isRefused
+first-refused fs k e = go (subst (Lowest (length fs) (refusedIn fs)) e (lowest-law (length fs) (refusedIn fs)))
+  where
+    go : Lowest (length fs) (refusedIn fs) (some k) → FirstRefusal fs (refusal (take k fs) (getD fs k cut)) k
+    go w =
+        record {
+          inside = w .0;
+          here = refused-number (take k fs) (getD fs k cut) (w .1);
+          lower = λ j lt. not-refused (take j fs) (getD fs j cut) (w .2 j lt);
+        }
+
+pub refused-first : (fs : List Field) (n k : ℕ) → FirstRefusal fs n k → firstRefused fs ≡ some k
+unfolding firstRefused firstField isRefused
+refused-first fs n k w =
+    lowest-is
+    (length fs)
+    (refusedIn fs)
+    k
+    (w .inside)
+    (number-refused (take k fs) (getD fs k cut) n (w .here))
+    (λ j lt. fine-not-refused (take j fs) (getD fs j cut) (w .lower j lt))
+
+pub none-refused : (fs : List Field) → (firstRefused fs ≡ none) ↔ ((k : ℕ) → k < length fs → Fine (take k fs) (getD fs k cut))
+unfolding firstRefused firstField isRefused
+none-refused fs = (
+  λ e k lt. not-refused (take k fs) (getD fs k cut) (subst (Lowest (length fs) (refusedIn fs)) e (lowest-law (length fs) (refusedIn fs)) k lt),
+  λ h. lowest-none (length fs) (refusedIn fs) (λ k lt. fine-not-refused (take k fs) (getD fs k cut) (h k lt)),
+)
+
+-- what is common to an accepted file and to 7 and 8: it is not too long and no field is refused
+pub record Read (file : List ℕ) : Type 0 where
+  pub size : length file ≤ mostFileBytes
+  pub fine : (k : ℕ) → k < length (fields file) → Fine (take k (fields file)) (getD (fields file) k cut)
+
+abbrev pub symbolsOf : List ℕ → List ℕ
+symbolsOf file = arities (rulesOf file .symbols)
+
+abbrev pub statesOfFile : List ℕ → List ℕ
+statesOfFile file = statesFor (symbolsOf file) (length (rulesOf file .types)) (rulesOf file .productions)
+
+-- the column "given when" of 01's table, with its order: 1, then the first field refused, then 7, then 8
+abbrev pub Given : List ℕ → ℕ → ℕ → Type 0
+Given file n k =
+    ((mostFileBytes < length file) × (n ≡ 1) × (k ≡ 0))
+    ⊎ (((length file ≤ mostFileBytes) × FirstRefusal (fields file) n k)
+    ⊎ ((Read file × (n ≡ 7) × (k ≡ length (fields file)) × ¬ List·Memᴰ 0 (symbolsOf file))
+    ⊎ (Read file × (n ≡ 8) × (k ≡ length (fields file)) × List·Memᴰ 0 (symbolsOf file) × (mostStates < length (statesOfFile file)))))
+
+abbrev pub Accepted : List ℕ → Type 0
+Accepted file = Read file × List·Memᴰ 0 (symbolsOf file) × (length (statesOfFile file) ≤ mostStates)
+
+-- 7: a symbol of arity 0
+constant-of : (ns : List ℕ) → T (not (noConstant ns)) → List·Memᴰ 0 ns
+constant-of ns t =
+    let w = any-find (λ n. eqb n 0) ns (not-not (any (λ n. eqb n 0) ns) t) in Memᴰ·cast (sym (eqb→eq (w .0) 0 (w .2))) (w .1)
+
+constant-is : (ns : List ℕ) → List·Memᴰ 0 ns → T (not (noConstant ns))
+constant-is ns m = not-not-intro (any (λ n. eqb n 0) ns) (any-give (λ n. eqb n 0) ns 0 m tt)
+
+no-constant-of : (ns : List ℕ) → T (noConstant ns) → ¬ List·Memᴰ 0 ns
+no-constant-of ns t m = clash (any (λ n. eqb n 0) ns) (any-give (λ n. eqb n 0) ns 0 m tt) t
+
+no-constant-is : (ns : List ℕ) → ¬ List·Memᴰ 0 ns → T (noConstant ns)
+no-constant-is ns h = not-intro (any (λ n. eqb n 0) ns) (λ t. h (constant-of ns (not-not-intro (any (λ n. eqb n 0) ns) t)))
+
+-- the answer after the fields, by whether there is a constant and how many states there are
+late-cases : (symbols : List ℕ) (types : ℕ) (productions : List Production) (count : ℕ)
+    → (List·Memᴰ 0 symbols × (length (statesFor symbols types productions) ≤ mostStates) × (lateAnswer symbols types productions count ≡ accepted))
+    ⊎ (((¬ List·Memᴰ 0 symbols) × (lateAnswer symbols types productions count ≡ refused 7 count))
+    ⊎ (List·Memᴰ 0 symbols × (mostStates < length (statesFor symbols types productions)) × (lateAnswer symbols types productions count ≡ refused 8 count)))
+unfolding lateAnswer
+late-cases symbols types productions count = go (decide (noConstant symbols)) (decide many)
+  where
+    found : ℕ
+    found = length (statesFor symbols types productions)
+
+    many : Bool
+    many = ltb mostStates found
+
+    last : Answer
+    last = cond many (refused 8 count) accepted
+
+    go : T (noConstant symbols) ⊎ T (not (noConstant symbols))
+        → T many ⊎ T (not many)
+        → (List·Memᴰ 0 symbols × (found ≤ mostStates) × (cond (noConstant symbols) (refused 7 count) last ≡ accepted))
+        ⊎ (((¬ List·Memᴰ 0 symbols) × (cond (noConstant symbols) (refused 7 count) last ≡ refused 7 count))
+        ⊎ (List·Memᴰ 0 symbols × (mostStates < found) × (cond (noConstant symbols) (refused 7 count) last ≡ refused 8 count)))
+    go (inl t) u = inr (inl (no-constant-of symbols t, cond-yes (noConstant symbols) (refused 7 count) last t))
+    go (inr t) (inl u) =
+        inr (inr (
+          constant-of symbols t,
+          ltb→lt mostStates found u,
+          cond-no (noConstant symbols) (refused 7 count) last t ∙ cond-yes many (refused 8 count) accepted u,
+        ))
+    go (inr t) (inr u) =
+        inl (
+          constant-of symbols t,
+          nltb→le mostStates found u,
+          cond-no (noConstant symbols) (refused 7 count) last t ∙ cond-no many (refused 8 count) accepted u,
+        )
+
+-- a file is accepted, or some number is given
+pub answer-cases : (file : List ℕ)
+    → (Accepted file × (fileAnswer file ≡ accepted)) ⊎ Given file (fileAnswer file .number) (fileAnswer file .place)
+unfolding fileAnswer fieldsAnswer rulesOf
+answer-cases file = go (decide long)
+  where
+    long : Bool
+    long = ltb mostFileBytes (length file)
+
+    Goal : Answer → Type 0
+    Goal a = (Accepted file × (a ≡ accepted)) ⊎ Given file (a .number) (a .place)
+
+    late : Read file → Goal (answerAt (fields file) none)
+    late r =
+        ⊎-elim
+        (λ w. inl ((r, w .0, w .1), w .2))
+        (⊎-elim
+        (λ w. inr (inr (inr (inl (r, ap (λ (a : Answer). a .number) (w .1), ap (λ (a : Answer). a .place) (w .1), w .0)))))
+        (λ w. inr (inr (inr (inr (r, ap (λ (a : Answer). a .number) (w .2), ap (λ (a : Answer). a .place) (w .2), w .0, w .1))))))
+        (late-cases (symbolsOf file) (length (rulesOf file .types)) (rulesOf file .productions) (length (fields file)))
+
+    at : (o : Option ℕ) → firstRefused (fields file) ≡ o → length file ≤ mostFileBytes → Goal (answerAt (fields file) o)
+    at none e le = late (record { size = le; fine = none-refused (fields file) .0 e })
+    at (some k) e le = inr (inr (inl (le, first-refused (fields file) k e)))
+
+    go : T long ⊎ T (not long) → Goal (cond long (refused 1 0) (answerAt (fields file) (firstRefused (fields file))))
+    go (inl t) = subst Goal (sym (cond-yes long (refused 1 0) _ t)) (inr (inl (ltb→lt mostFileBytes (length file) t, refl, refl)))
+    go (inr t) = subst Goal (sym (cond-no long (refused 1 0) _ t)) (at (firstRefused (fields file)) refl (nltb→le mostFileBytes (length file) t))
+
+-- the other way: each number is given where it fits
+fields-answer : (file : List ℕ) → length file ≤ mostFileBytes → fileAnswer file ≡ fieldsAnswer (fields file)
+unfolding fileAnswer
+fields-answer file le = cond-no (ltb mostFileBytes (length file)) (refused 1 0) (fieldsAnswer (fields file)) (le→nltb mostFileBytes (length file) le)
+
+read-answer : (file : List ℕ)
+    → Read file
+    → fileAnswer file ≡ lateAnswer (symbolsOf file) (length (rulesOf file .types)) (rulesOf file .productions) (length (fields file))
+unfolding fieldsAnswer rulesOf
+read-answer file r = fields-answer file (r .size) ∙ ap (answerAt (fields file)) (none-refused (fields file) .1 (r .fine))
+
+pub given-answer : (file : List ℕ) (n k : ℕ) → Given file n k → fileAnswer file ≡ refused n k
+unfolding fileAnswer fieldsAnswer lateAnswer
+given-answer file n k (inl (w)) =
+    cond-yes (ltb mostFileBytes (length file)) (refused 1 0) (fieldsAnswer (fields file)) (lt→ltb mostFileBytes (length file) (w .0))
+    ∙ ap₂ refused (sym (w .1)) (sym (w .2))
+given-answer file n k (inr (inl w)) =
+    fields-answer file (w .0)
+    ∙ (ap (answerAt (fields file)) (refused-first (fields file) n k (w .1))
+    ∙ ap (λ (i : ℕ). refused i k) (refusal-is (take k (fields file)) (getD (fields file) k cut) n (w .1 .here)))
+given-answer file n k (inr (inr (inl w))) =
+    read-answer file (w .0)
+    ∙ (cond-yes (noConstant (symbolsOf file)) (refused 7 (length (fields file))) _ (no-constant-is (symbolsOf file) (w .3))
+    ∙ ap₂ refused (sym (w .1)) (sym (w .2)))
+given-answer file n k (inr (inr (inr w))) =
+    read-answer file (w .0)
+    ∙ (cond-no (noConstant (symbolsOf file)) (refused 7 (length (fields file))) _ (constant-is (symbolsOf file) (w .3))
+    ∙ (cond-yes (ltb mostStates (length (statesOfFile file))) (refused 8 (length (fields file))) accepted (lt→ltb mostStates (length (statesOfFile file)) (w .4))
+    ∙ ap₂ refused (sym (w .1)) (sym (w .2))))
+
+accepted-answer : (file : List ℕ) → Accepted file → fileAnswer file ≡ accepted
+unfolding lateAnswer
+accepted-answer file w =
+    read-answer file (w .0)
+    ∙ (cond-no (noConstant (symbolsOf file)) (refused 7 (length (fields file))) _ (constant-is (symbolsOf file) (w .1))
+    ∙ cond-no (ltb mostStates (length (statesOfFile file))) (refused 8 (length (fields file))) accepted (le→nltb mostStates (length (statesOfFile file)) (w .2)))
+
+-- a number that is given is no 0
+given-pos : (file : List ℕ) (n k : ℕ) → Given file n k → n ≢ 0
+given-pos file n k (inl w) = let q = w .1 in omega arith
+given-pos file n k (inr (inl w)) = refusal-pos (take k (fields file)) (getD (fields file) k cut) n (w .1 .here)
+given-pos file n k (inr (inr (inl w))) = let q = w .1 in omega arith
+given-pos file n k (inr (inr (inr w))) = let q = w .1 in omega arith
+
+-- Refusals are the first that fit.
+pub refused-exact : (file : List ℕ) (n k : ℕ) → n ≢ 0 → (fileAnswer file ≡ refused n k) ↔ Given file n k
+refused-exact file n k pos = (
+  λ e.
+      ⊎-elim
+      (λ w. absurd (pos (ap (λ (a : Answer). a .number) (sym e ∙ w .1))))
+      (λ w. subst₂ (Given file) (ap (λ (a : Answer). a .number) e) (ap (λ (a : Answer). a .place) e) w)
+      (answer-cases file),
+  λ w. given-answer file n k w,
+)
+
+pub accepted-exact : (file : List ℕ) → (fileAnswer file ≡ accepted) ↔ Accepted file
+accepted-exact file = (
+  λ e.
+      ⊎-elim
+      (λ w. w .0)
+      (λ w. absurd (given-pos file (fileAnswer file .number) (fileAnswer file .place) w (ap (λ (a : Answer). a .number) e)))
+      (answer-cases file),
+  accepted-answer file,
+)
