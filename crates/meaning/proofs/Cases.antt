@@ -5,37 +5,38 @@ use mathlib.Core.Bool.{Bool}
 use mathlib.Core.List.{List, [], _∷_, _++_}
 use lib.Dec.{T}
 use lib.ListN.{length}
-use Rattle.meaning.specs.Lists.{all, same, joined}
-use Rattle.meaning.specs.Syntax.{Terms, var, app, end, _▸_, Named, Production, Atom, Clause, Condition, isOf, notOf, free, Query, Rules}
+use Rattle.meaning.specs.Lists.{any, all, same, joined}
+use Rattle.meaning.specs.Syntax.{Term, var, app, end, _▸_, Named, Production, Atom, Clause, Condition, isOf, notOf, free, Query, Rules}
 use Rattle.meaning.specs.Encoding.{encodeRules}
 use Rattle.meaning.specs.Fields.{fields, firstField}
 use Rattle.meaning.specs.Contents.{termWithin, readTerms, readAtom, readAtoms, readClause, readConditions, readQuery}
 use Rattle.meaning.specs.Refusals.{Answer, refusal, firstRefused}
-use Rattle.meaning.specs.Types.{signature, step}
+use Rattle.meaning.specs.Types.{signature, step, bit}
 use Rattle.meaning.specs.States.{determinise, cellOf, tables}
 use Rattle.meaning.specs.Files.{rulesIn, rulesOf, statesFor, lateAnswer, fieldsAnswer, fileAnswer}
 use Rattle.meaning.specs.Clauses.{brings, next, stage, rounds, model, isOpen}
 use Rattle.meaning.specs.Certificates.{encodeSheet, violated, checkFields, sheetAnswer, markedAtoms}
 use Rattle.meaning.specs.Calls.{symbolArities, predicateArities, statesOf, stepOf, interpretationOf, tablesOf, roundsOf, modelOf, atomsOf, verdictOf, verdictsOf}
 
--- what a row asks of a rule file
+-- what a row asks of a rule file: the answer to it, its bytes, the states, the tables, the number of atoms and the round count with the atoms,
+-- the verdicts, whether a domain atom is in the model, the answer to a sheet
 data Asked : Type 0 where
-  answer bytes states cells model⁺ rounds⁺ verdicts : Asked
-  check : List ℕ → Asked
+  accepts reads states cells models verdicts : Asked
+  inModel check : List ℕ → Asked
 
--- an answer as two numbers
 abbrev pair : Answer → List ℕ
 pair a = a .number ∷ a .place ∷ []
 
 ask : Asked → List ℕ → List ℕ
-ask answer file = pair (fileAnswer file)
-ask bytes file = file
+ask accepts file = pair (fileAnswer file)
+ask reads file = file
 ask states file = statesOf file
 ask cells file = tablesOf file
-ask model⁺ file = joined (atomsOf file)
-ask rounds⁺ file = roundsOf file ∷ []
+ask models file = length (atomsOf file) ∷ roundsOf file ∷ joined (atomsOf file)
 ask verdicts file = verdictsOf file
-ask (check sheet) file = pair (sheetAnswer (statesOf file) (interpretationOf file) (predicateArities file) (rulesOf file .clauses) sheet)
+ask (inModel atom) file = bit (any (same atom) (atomsOf file)) ∷ []
+ask (check sheet) file =
+    pair (sheetAnswer (statesOf file) (interpretationOf file) (predicateArities file) (rulesOf file .clauses) sheet)
 
 record Row : Type 0 where
   file : List ℕ
@@ -44,10 +45,6 @@ record Row : Type 0 where
 
 abbrev row : List ℕ → Asked → List ℕ → Row
 row f a s = record { file = f; asked = a; says = s }
-
--- names, terms and atoms
-letter : ℕ → List ℕ
-letter b = b ∷ []
 
 -- rule set E, from 01's bytes
 E : List ℕ
@@ -68,77 +65,130 @@ sheetE = twoStates ++ (0x11 ∷ 0x00 ∷ 0x02 ∷ 0x00 ∷ 0x00 ∷ [])
 sheetG : List ℕ
 sheetG = sheetE ++ (0x11 ∷ 0x00 ∷ 0x02 ∷ 0x00 ∷ 0x01 ∷ [])
 
--- atoms and clauses, as 01 writes them
-X : Terms
-X = var 0 ▸ end
+-- rules in the words of 01: variables X and Y, the symbols z and s, atoms, clauses, queries
+X : Term
+X = var 0
 
-z : Terms
-z = app 0 end ▸ end
+Y : Term
+Y = var 1
 
-s : Terms → Terms
-s end = end
-s (t ▸ ts) = app 1 (t ▸ end) ▸ ts
+z : Term
+z = app 0 end
 
-atom : ℕ → Terms → Atom
-atom p ts = record { predicate = p; arguments = ts }
+s : Term → Term
+s t = app 1 (t ▸ end)
 
-fact : ℕ → Atom → Clause
-fact v head = record { variables = v; head = head; body = [] }
+p : Term → Atom
+p t = record { predicate = 0; arguments = t ▸ end }
 
-if₁ : Atom → Atom → Clause
-if₁ head body = record { variables = 1; head = head; body = body ∷ [] }
+q : Term → Atom
+q t = record { predicate = 1; arguments = t ▸ end }
 
--- E's symbols, types and productions, with other predicates, clauses and queries
-evenOdd : List Named → List Clause → List Query → Rules
+p₂ : Term → Term → Atom
+p₂ t u = record { predicate = 0; arguments = t ▸ u ▸ end }
+
+clause : ℕ → Atom → List Atom → Clause
+clause v head body = record { variables = v; head = head; body = body }
+
+query : List Condition → Atom → Query
+query conditions atom = record { conditions = conditions; atom = atom }
+
+name : ℕ → ℕ → Named
+name letter n = record { arity = n; name = letter ∷ [] }
+
+to : ℕ → ℕ → List ℕ → Production
+to target symbol arguments = record { target = target; symbol = symbol; arguments = arguments }
+
+-- E's symbols, types and productions, with some predicates, clauses and queries; even is type 0, odd is type 1
+evenOdd : List Named → List Clause → List Query → List ℕ
 evenOdd predicates clauses queries =
-    record {
-      symbols = record { arity = 0; name = 0x7A ∷ [] } ∷ record { arity = 1; name = 0x73 ∷ [] } ∷ [];
+    encodeRules
+    (record {
+      symbols = name 0x7A 0 ∷ name 0x73 1 ∷ [];
       types = (0x65 ∷ 0x76 ∷ 0x65 ∷ 0x6E ∷ []) ∷ (0x6F ∷ 0x64 ∷ 0x64 ∷ []) ∷ [];
-      productions =
-          record { target = 0; symbol = 0; arguments = [] }
-          ∷ record { target = 0; symbol = 1; arguments = 1 ∷ [] }
-          ∷ record { target = 1; symbol = 1; arguments = 0 ∷ [] }
-          ∷ [];
+      productions = to 0 0 [] ∷ to 0 1 (1 ∷ []) ∷ to 1 1 (0 ∷ []) ∷ [];
       predicates = predicates;
       clauses = clauses;
       queries = queries;
-    }
+    })
 
-p/ : ℕ → Named
-p/ n = record { arity = n; name = 0x70 ∷ [] }
+-- E again, from its words; I: p(z), q(s(X)) if p(X), p(s(X)) if q(X); J: no clauses
+wordsE : List ℕ
+wordsE =
+    evenOdd (name 0x70 1 ∷ []) (clause 0 (p z) [] ∷ clause 1 (p (s (s X))) (p X ∷ []) ∷ [])
+    (query (notOf 0 ∷ []) (p X) ∷ query (notOf 1 ∷ []) (p X) ∷ [])
 
-q/ : ℕ → Named
-q/ n = record { arity = n; name = 0x71 ∷ [] }
-
--- I: p(z), q(s(X)) if p(X), p(s(X)) if q(X). J: no clauses
 I : List ℕ
-I = encodeRules (evenOdd (p/ 1 ∷ q/ 1 ∷ []) (fact 0 (atom 0 z) ∷ if₁ (atom 1 (s X)) (atom 0 X) ∷ if₁ (atom 0 (s X)) (atom 1 X) ∷ []) [])
+I =
+    evenOdd (name 0x70 1 ∷ name 0x71 1 ∷ [])
+    (clause 0 (p z) [] ∷ clause 1 (q (s X)) (p X ∷ []) ∷ clause 1 (p (s X)) (q X ∷ []) ∷ []) []
 
 J : List ℕ
-J = encodeRules (evenOdd (p/ 1 ∷ []) [] [])
+J = evenOdd (name 0x70 1 ∷ []) [] []
+
+-- The reefs. One constant a, some types a letter each, productions, the clause p(X), one query p(X) with its condition.
+constantOnly : List (List ℕ) → List Production → Condition → List ℕ
+constantOnly types productions condition =
+    encodeRules
+    (record {
+      symbols = name 0x61 0 ∷ [];
+      types = types;
+      productions = productions;
+      predicates = name 0x70 1 ∷ [];
+      clauses = clause 1 (p X) [] ∷ [];
+      queries = query (condition ∷ []) (p X) ∷ [];
+    })
+
+-- type t and no production: a is of no type, and that set is a state
+noType : List ℕ
+noType = constantOnly ((0x74 ∷ []) ∷ []) [] (notOf 0)
+
+-- types t and u, production t to a: no term has the set with u alone
+noSuchSet : List ℕ
+noSuchSet = constantOnly ((0x74 ∷ []) ∷ (0x75 ∷ []) ∷ []) (to 0 0 [] ∷ []) (isOf 1)
+
+-- a variable in two places: p(X, X), asked with X even and Y odd, and with both even
+twoPlaces : List ℕ
+twoPlaces =
+    evenOdd (name 0x70 2 ∷ []) (clause 1 (p₂ X X) [] ∷ [])
+    (query (isOf 0 ∷ isOf 1 ∷ []) (p₂ X Y) ∷ query (isOf 0 ∷ isOf 0 ∷ []) (p₂ X Y) ∷ [])
+
+-- a variable in the head alone ranges over all states: p(X), asked with X even and with X odd
+headOnly : List ℕ
+headOnly =
+    evenOdd (name 0x70 1 ∷ []) (clause 1 (p X) [] ∷ []) (query (isOf 0 ∷ []) (p X) ∷ query (isOf 1 ∷ []) (p X) ∷ [])
 
 rows : List Row
 rows =
-    row E answer (0 ∷ 0 ∷ [])
+    row E accepts (0 ∷ 0 ∷ [])
+    ∷ row wordsE reads E
+    -- A to D
     ∷ row E states (1 ∷ 2 ∷ [])
     ∷ row E cells (0 ∷ 1 ∷ 0 ∷ [])
-    ∷ row E model⁺ (0 ∷ 0 ∷ [])
-    ∷ row E rounds⁺ (1 ∷ [])
+    ∷ row E models (1 ∷ 1 ∷ 0 ∷ 0 ∷ [])
     ∷ row E verdicts (0 ∷ 1 ∷ [])
+    -- F to H
     ∷ row E (check sheetE) (0 ∷ 0 ∷ [])
     ∷ row E (check sheetG) (0 ∷ 0 ∷ [])
+    ∷ row E (inModel (0 ∷ 1 ∷ [])) (0 ∷ [])
     ∷ row E (check twoStates) (13 ∷ 0 ∷ [])
-    ∷ row I answer (0 ∷ 0 ∷ [])
-    ∷ row I model⁺ (0 ∷ 0 ∷ 1 ∷ 1 ∷ [])
-    ∷ row I rounds⁺ (2 ∷ [])
-    ∷ row J answer (0 ∷ 0 ∷ [])
-    ∷ row J model⁺ []
-    ∷ row J rounds⁺ (0 ∷ [])
+    -- I, J
+    ∷ row I accepts (0 ∷ 0 ∷ [])
+    ∷ row I models (2 ∷ 2 ∷ 0 ∷ 0 ∷ 1 ∷ 1 ∷ [])
+    ∷ row J accepts (0 ∷ 0 ∷ [])
+    ∷ row J models (0 ∷ 0 ∷ [])
+    -- the reefs
+    ∷ row noType states (0 ∷ [])
+    ∷ row noType verdicts (1 ∷ [])
+    ∷ row noSuchSet states (1 ∷ [])
+    ∷ row noSuchSet verdicts (0 ∷ [])
+    ∷ row twoPlaces verdicts (0 ∷ 1 ∷ [])
+    ∷ row headOnly verdicts (1 ∷ 1 ∷ [])
     ∷ []
 
 holds : Row → Bool
 holds r = same (ask (r .asked) (r .file)) (r .says)
 
 cases : T (all holds rows)
-unfolding rows holds ask E twoStates sheetE sheetG X z s atom fact if₁ evenOdd p/ q/ I J encodeRules fields termWithin readTerms readAtom readAtoms readClause readConditions readQuery refusal firstField firstRefused signature step determinise cellOf tables rulesIn rulesOf statesFor lateAnswer fieldsAnswer fileAnswer brings next stage rounds model isOpen encodeSheet violated checkFields sheetAnswer markedAtoms symbolArities predicateArities statesOf stepOf interpretationOf tablesOf roundsOf modelOf atomsOf verdictOf verdictsOf
+unfolding rows holds ask E twoStates sheetE sheetG X Y z s p q p₂ clause query name to evenOdd wordsE I J constantOnly noType noSuchSet twoPlaces headOnly encodeRules fields firstField termWithin readTerms readAtom readAtoms readClause readConditions readQuery refusal firstRefused signature step determinise cellOf tables rulesIn rulesOf statesFor lateAnswer fieldsAnswer fileAnswer brings next stage rounds model isOpen encodeSheet violated checkFields sheetAnswer markedAtoms symbolArities predicateArities statesOf stepOf interpretationOf tablesOf roundsOf modelOf atomsOf verdictOf verdictsOf
 cases = tt
