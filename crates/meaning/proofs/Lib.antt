@@ -2,4 +2,9 @@
 pub mod Lists
 pub mod Setting
 pub mod Answers
+pub mod Cells
+pub mod Stages
+pub mod Sums
+pub mod Model
+pub mod Verdicts
 pub mod Cases
