@@ -7,4 +7,6 @@ pub mod Stages
 pub mod Sums
 pub mod Model
 pub mod Verdicts
+pub mod Soundness
+pub mod MarkedAtoms
 pub mod Cases

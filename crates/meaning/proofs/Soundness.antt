@@ -1,0 +1,165 @@
+-- Soundness: what is derivable lies, by its terms' states, in every closed set of domain atoms; so a query that is not OPEN in one closed
+-- set has no derivable ground instance that meets its conditions. Assumes nothing.
+use Prim.Native.Nat.{ℕ, suc, _<_, suc-le-suc}
+use mathlib.Core.Path.{_≡_, refl, sym, ap, ap₂, subst, _∙_}
+use mathlib.Core.Bool.{not}
+use mathlib.Core.List.{List, [], _∷_, List·Memᴰ}
+use native.Mathlib.Nat.{zero-lt-suc}
+use lib.Dec.{T}
+use lib.ListN.{length, getD}
+use Rattle.meaning.specs.Lists.{All, table}
+use Rattle.meaning.specs.Syntax.{Term, Terms, var, app, end, _▸_, termCount, Tree, Trees, treeCount, Production, Atom, Clause, Condition, isOf, notOf, free, Query}
+use Rattle.meaning.specs.Legal.{Declared, WellTerm, WellTerms, WellAtom, WellClause, WellQuery}
+use Rattle.meaning.specs.Types.{has, allowed, IsGround, AreGround}
+use Rattle.meaning.specs.Ground.{GroundSet, ground, grounds, GroundIn, IsSubstitution, GroundClosed, Derivable, GroundMeets, GroundMeetsAll, NoneDerivable}
+use Rattle.meaning.specs.Clauses.{AtomSet, IsValuation, stateOf, statesOf, InstanceIn, Closed, meets, meetsAll, Open}
+use Rattle.meaning.proofs.Lists.{both-of, not-intro, All-find, All-give, length-table, getD-table, table-mem}
+use Rattle.meaning.proofs.Setting.{eachState, Homomorphism}
+
+-- the valuation of a substitution: each variable has the state of its term
+abbrev pub valuation : (Tree → ℕ) → ℕ → (ℕ → Tree) → List ℕ
+valuation st v σ = table v (λ i. st (σ i))
+
+-- the ground atoms whose terms' states are in a set of domain atoms
+abbrev pub abstraction : (Tree → ℕ) → AtomSet → GroundSet
+abstraction st S p ts = S p (eachState st ts)
+
+-- a ground instance of a list has as many terms as the list
+pub count-ground : (σ : ℕ → Tree) (ts : Terms) → treeCount (grounds σ ts) ≡ termCount ts
+count-ground σ end = refl
+count-ground σ (t ▸ ts) = ap suc (count-ground σ ts)
+
+-- conditions from the second variable on are conditions under the substitution that starts there
+meets-shift : (productions : List Production) (cs : List Condition) (σ : ℕ → Tree) (i : ℕ)
+    → GroundMeetsAll productions cs σ (suc i)
+    → GroundMeetsAll productions cs (λ j. σ (suc j)) i
+meets-shift productions [] σ i h = tt
+meets-shift productions (c ∷ cs) σ i h = (h .0, meets-shift productions cs σ (suc i) (h .1))
+
+-- a ground instance of a term is a ground term
+module _
+    (arities : List ℕ)
+    (allow : (f n : ℕ) → Declared arities f n → T (allowed arities f n))
+    (v : ℕ)
+    (σ : ℕ → Tree)
+    (given : IsSubstitution arities v σ)
+  where
+    mutual
+      pub ground-is-ground : (t : Term) → WellTerm arities v t → IsGround arities (ground σ t)
+      ground-is-ground (var i) w = given i w
+      ground-is-ground (app f ts) w = (
+        subst (λ (n : ℕ). T (allowed arities f n)) (sym (count-ground σ ts)) (allow f (termCount ts) (w .0)),
+        grounds-are-ground ts (w .1),
+      )
+
+      pub grounds-are-ground : (ts : Terms) → WellTerms arities v ts → AreGround arities (grounds σ ts)
+      grounds-are-ground end w = tt
+      grounds-are-ground (t ▸ ts) w = (ground-is-ground t (w .0), grounds-are-ground ts (w .1))
+
+module _
+    (arities preds : List ℕ)
+    (productions : List Production)
+    (sets : List ℕ)
+    (interpret : ℕ → List ℕ → ℕ)
+    (st : Tree → ℕ)
+    (hom : Homomorphism arities productions sets interpret st)
+    (allow : (f n : ℕ) → Declared arities f n → T (allowed arities f n))
+  where
+    -- the states of a substitution's terms are a valuation
+    pub is-valuation : (v : ℕ) (σ : ℕ → Tree) → IsSubstitution arities v σ → IsValuation (length sets) v (valuation st v σ)
+    is-valuation v σ given = (length-table v (λ i. st (σ i)), All-give (valuation st v σ) below)
+      where
+        below : (d : ℕ) → List·Memᴰ d (valuation st v σ) → d < length sets
+        below d at =
+            let w = table-mem v (λ i. st (σ i)) d at in
+            subst (λ (k : ℕ). k < length sets) (sym (w .2)) (hom .below (σ (w .0)) (given (w .0) (w .1)))
+
+    -- the state of a ground instance is the state of the term under the substitution's valuation
+    module _ (v : ℕ) (σ : ℕ → Tree) (given : IsSubstitution arities v σ) where
+      mutual
+        pub state-ground : (t : Term) → WellTerm arities v t → st (ground σ t) ≡ stateOf interpret (valuation st v σ) t
+        state-ground (var i) w = sym (getD-table v (λ j. st (σ j)) 0 i w)
+        state-ground (app f ts) w =
+            hom .along f (grounds σ ts) (ground-is-ground arities allow v σ given (app f ts) w) ∙ ap (interpret f) (states-ground ts (w .1))
+
+        pub states-ground : (ts : Terms) → WellTerms arities v ts → eachState st (grounds σ ts) ≡ statesOf interpret (valuation st v σ) ts
+        states-ground end w = refl
+        states-ground (t ▸ ts) w = ap₂ (λ (d : ℕ) (row : List ℕ). d ∷ row) (state-ground t (w .0)) (states-ground ts (w .1))
+
+      -- so a ground atom is in a set by its states exactly if the atom's instance is
+      pub instance-of-ground : (S : AtomSet) (a : Atom)
+          → WellAtom arities v preds a
+          → GroundIn σ (abstraction st S) a
+          → InstanceIn interpret (valuation st v σ) S a
+      instance-of-ground S a w h = subst (S (a .predicate)) (states-ground (a .arguments) (w .1)) h
+
+      pub ground-of-instance : (S : AtomSet) (a : Atom)
+          → WellAtom arities v preds a
+          → InstanceIn interpret (valuation st v σ) S a
+          → GroundIn σ (abstraction st S) a
+      ground-of-instance S a w h = subst (S (a .predicate)) (sym (states-ground (a .arguments) (w .1))) h
+
+    module _
+        (clauses : List Clause)
+        (well : All (WellClause arities preds) clauses)
+        (S : AtomSet)
+        (closed : Closed (length sets) interpret clauses S)
+      where
+        -- the ground atoms whose states are in a closed set are a closed set of ground atoms
+        pub abstraction-closed : GroundClosed arities clauses (abstraction st S)
+        abstraction-closed c at σ given body =
+            ground-of-instance v σ given S (c .head) (fine .2)
+            (closed c at (valuation st v σ) (is-valuation v σ given) (All-give (c .body) body-instance))
+          where
+            v : ℕ
+            v = c .variables
+
+            fine : WellClause arities preds c
+            fine = All-find (WellClause arities preds) clauses well c at
+
+            body-instance : (a : Atom) → List·Memᴰ a (c .body) → InstanceIn interpret (valuation st v σ) S a
+            body-instance a k =
+                instance-of-ground v σ given S a
+                (All-find (WellAtom arities v preds) (c .body) (fine .3) a k)
+                (All-find (GroundIn σ (abstraction st S)) (c .body) body a k)
+
+        -- what is derivable is, by its states, in every closed set
+        pub derivable-in : (p : ℕ) (ts : Trees) → Derivable arities clauses p ts → S p (eachState st ts)
+        derivable-in p ts derivable = derivable (abstraction st S) abstraction-closed
+
+    -- the valuation of a substitution meets the conditions that the substitution meets
+    meets-ground : (c : Condition) (t : Tree) → IsGround arities t → GroundMeets productions c t → T (meets sets c (st t))
+    meets-ground (isOf q) t g h = hom .exact t g q .1 h
+    meets-ground (notOf q) t g h = not-intro (has (getD sets (st t) 0) q) (λ k. h (hom .exact t g q .0 k))
+    meets-ground free t g h = tt
+
+    pub meets-all-ground : (cs : List Condition) (σ : ℕ → Tree)
+        → IsSubstitution arities (length cs) σ
+        → GroundMeetsAll productions cs σ 0
+        → T (meetsAll sets cs (valuation st (length cs) σ))
+    meets-all-ground [] σ given h = tt
+    meets-all-ground (c ∷ cs) σ given h =
+        both-of
+        (meets sets c (st (σ 0)))
+        (meetsAll sets cs (valuation st (length cs) (λ i. σ (suc i))))
+        (meets-ground c (σ 0) (given 0 (zero-lt-suc (length cs))) (h .0))
+        (meets-all-ground cs (λ i. σ (suc i)) (λ i lt. given (suc i) (suc-le-suc lt)) (meets-shift productions cs σ 0 (h .1)))
+
+    -- a query that is not OPEN in some closed set has no derivable ground instance that meets its conditions
+    pub clear-sound : (types : ℕ) (clauses : List Clause)
+        → All (WellClause arities preds) clauses
+        → (q : Query)
+        → WellQuery types arities preds q
+        → (S : AtomSet)
+        → Closed (length sets) interpret clauses S
+        → ¬ Open sets (length sets) interpret S q
+        → NoneDerivable arities productions clauses q
+    clear-sound types clauses well q wq S closed clear σ given met derivable =
+        let v = length (q .conditions) in
+        clear (
+          valuation st v σ,
+          is-valuation v σ given,
+          meets-all-ground (q .conditions) σ given met,
+          instance-of-ground v σ given S (q .atom) (wq .2)
+              (derivable-in clauses well S closed (q .atom .predicate) (grounds σ (q .atom .arguments)) derivable),
+        )
