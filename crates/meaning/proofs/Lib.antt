@@ -2,7 +2,11 @@
 pub mod Lists
 pub mod Setting
 pub mod Answers
+pub mod Sets
+pub mod Types
 pub mod Cells
+pub mod Rising
+pub mod States
 pub mod Stages
 pub mod Sums
 pub mod Model
