@@ -22,7 +22,7 @@ use Rattle.meaning.specs.Legal.{NoneTwice, Declared}
 use Rattle.meaning.specs.Cells.{rowOf}
 use Rattle.meaning.specs.Clauses.{AtomSet, IsValuation, statesOf, InstanceIn, instanceIn, Closed}
 use Rattle.meaning.specs.Certificates.{stateBytes, encodeSheet, IsSheetAtom, LaidOut, Carries, InSheet, Valid, isAtomContent, misplaced, statesIn, differ, wrongAtom, among, violated, violatedAt, refusedAt, checkFields, sheetAnswer}
-use Rattle.meaning.proofs.Lists.{decide, trichotomy, T-of, clash, not-not, not-intro, both, both-of, any-find, any-give, all-facts, facts-all, All-map, mem-getD, mem-place, anyBelow-find, anyBelow-give, Lowest, lowest-law, lowest-is, lowest-none, eq-same, same-eq, same-refl}
+use Rattle.meaning.proofs.Lists.{decide, trichotomy, T-of, clash, not-not, not-not-intro, not-intro, both, both-of, neither, neither-of, any-find, any-give, all-facts, facts-all, All-map, mem-getD, mem-place, anyBelow-find, anyBelow-give, Lowest, lowest-law, lowest-is, lowest-none, eq-same, same-eq, same-refl}
 use Rattle.meaning.proofs.Fields.{word-halves, fields-each, fields-joined, fields-nil, encodeWhole, fields-whole, FieldBytes, fields-bytes, contentsOf-append, contentsOf-same, contentsOf-other, NoneBy, NoneBy-places, NoField, NoField-append, firstField-none}
 use Rattle.meaning.proofs.Cells.{valuation-of-number, number-of-valuation}
 
@@ -81,19 +81,6 @@ in-sheet xs atoms p row = (
   (λ h. (xs, atoms, refl, h)),
 )
 
--- a test of either fails if both fail
-neither : (a b : Bool) → T (not (a || b)) → T (not a) × T (not b)
-neither true b t = absurd t
-neither false b t = (tt, t)
-
-neither-of : (a b : Bool) → T (not a) → T (not b) → T (not (a || b))
-neither-of true b s t = absurd s
-neither-of false b s t = t
-
-not-not-of : (b : Bool) → T b → T (not (not b))
-not-not-of true t = tt
-not-not-of false t = t
-
 -- a declared predicate or symbol, as a test and as a fact
 declared-fact : (arities : List ℕ) (p n : ℕ) → T (declared arities p n) ↔ Declared arities p n
 declared-fact arities p n = (
@@ -138,7 +125,7 @@ module _ (preds : List ℕ) where
       → NoField (misplaced preds) before (map (whole atomTag) atoms)
   atoms-placed before [] h = tt
   atoms-placed before (a ∷ atoms) h =
-      (not-not-of (isAtomContent preds a) (h .0), atoms-placed (before ++ (whole atomTag a ∷ [])) atoms (h .1))
+      (not-not-intro (isAtomContent preds a) (h .0), atoms-placed (before ++ (whole atomTag a ∷ [])) atoms (h .1))
 
   -- a field that is not misplaced is a state's, with no atom before it, or an atom's
   Placed : List Field → Field → Type 0
@@ -249,7 +236,7 @@ differ-none xs ys = (alike, (λ e. subst (λ (l : List ℕ). lowest (max (length
     same-place : (i : ℕ) → i < max (length xs) (length xs) → T (not (differ xs xs i))
     same-place i lt =
         let t = lt→ltb i (length xs) (omega arith) in
-        not-not-of
+        not-not-intro
         (ltb i (length xs) && ltb i (length xs) && eqb (getD xs i 0) (getD xs i 0))
         (both-of
         (ltb i (length xs) && ltb i (length xs))
@@ -336,7 +323,7 @@ module _ (m : ℕ) (preds : List ℕ) where
           neither-of
               (not (all (λ d. ltb d m) row))
               (any (same (p ∷ row)) (contentsOf atomTag before))
-              (not-not-of (all (λ d. ltb d m) row) (facts-all (λ d. ltb d m) row (All-map row (λ d. lt→ltb d m) (k .0 .0 .1))))
+              (not-not-intro (all (λ d. ltb d m) row) (facts-all (λ d. ltb d m) row (All-map row (λ d. lt→ltb d m) (k .0 .0 .1))))
               (subst (λ (l : List (List ℕ)). T (not (any (same (p ∷ row)) l))) (sym e) (k .1 .0)),
           later .1 (k .0 .1, k .1 .1),
         )),

@@ -15,4 +15,5 @@ pub mod Verdicts
 pub mod Soundness
 pub mod MarkedAtoms
 pub mod Certificates
+pub mod Theorems
 pub mod Cases

@@ -86,6 +86,14 @@ pub right-of : (a b : Bool) → T b → T (a || b)
 right-of true b t = tt
 right-of false b t = t
 
+pub neither : (a b : Bool) → T (not (a || b)) → T (not a) × T (not b)
+neither true b t = absurd t
+neither false b t = (tt, t)
+
+pub neither-of : (a b : Bool) → T (not a) → T (not b) → T (not (a || b))
+neither-of true b s t = absurd s
+neither-of false b s t = t
+
 -- a choice by a test
 pub cond-yes {ℓ} : {A : Type ℓ} (b : Bool) (x y : A) → T b → cond b x y ≡ x
 cond-yes true x y t = refl
