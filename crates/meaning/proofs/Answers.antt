@@ -5,6 +5,7 @@ use mathlib.Core.Logic.{_⊎_, inl, inr, ⊎-elim, _↔_, _≢_}
 use mathlib.Core.Bool.{Bool, true, false, cond, not, _&&_}
 use mathlib.Core.List.{List, [], _∷_, List·Memᴰ, Memᴰ·cast}
 use mathlib.Core.Option.{Option, none, some}
+use native.Mathlib.Nat.{ne-of-gt}
 use native.Mathlib.Omega.{arith}
 use lib.Dec.{T, eqb, leb, ltb, ltb→lt, lt→ltb, nltb→le, eqb→eq, eqb-refl}
 use lib.Arith.{le→nltb}
@@ -71,12 +72,13 @@ unfolding choose
 choose-none a b c d e h =
     cond-no a 2 _ (h .0) ∙ (cond-no b 3 _ (h .1) ∙ (cond-no c 6 _ (h .2) ∙ (cond-no d 4 _ (h .3) ∙ cond-no e 5 0 (h .4))))
 
-first-pos : (a b c d e : Bool) (n : ℕ) → FirstOf a b c d e n → n ≢ 0
-first-pos a b c d e n (inl h) = let q = h .0 in omega arith
-first-pos a b c d e n (inr (inl h)) = let q = h .0 in omega arith
-first-pos a b c d e n (inr (inr (inl h))) = let q = h .0 in omega arith
-first-pos a b c d e n (inr (inr (inr (inl h)))) = let q = h .0 in omega arith
-first-pos a b c d e n (inr (inr (inr (inr h)))) = let q = h .0 in omega arith
+-- which is 2 to 6
+first-range : (a b c d e : Bool) (n : ℕ) → FirstOf a b c d e n → (0 < n) × (n < 7)
+first-range a b c d e n (inl h) = let q = h .0 in omega arith
+first-range a b c d e n (inr (inl h)) = let q = h .0 in omega arith
+first-range a b c d e n (inr (inr (inl h))) = let q = h .0 in omega arith
+first-range a b c d e n (inr (inr (inr (inl h)))) = let q = h .0 in omega arith
+first-range a b c d e n (inr (inr (inr (inr h)))) = let q = h .0 in omega arith
 
 -- the number of a field, by 01's order
 pub refusal-cases : (before : List Field) (f : Field) → (Fine before f × (refusal before f ≡ 0)) ⊎ RefusedWith before f (refusal before f)
@@ -91,8 +93,11 @@ pub refusal-fine : (before : List Field) (f : Field) → Fine before f → refus
 unfolding refusal choose
 refusal-fine before f h = choose-none (isCut f) (wrongTag before f) (tooMany before f) (malformed before f) (nameTaken before f) h
 
-pub refusal-pos : (before : List Field) (f : Field) (n : ℕ) → RefusedWith before f n → n ≢ 0
-refusal-pos before f n h = first-pos (isCut f) (wrongTag before f) (tooMany before f) (malformed before f) (nameTaken before f) n h
+pub refusal-range : (before : List Field) (f : Field) (n : ℕ) → RefusedWith before f n → (0 < n) × (n < 7)
+refusal-range before f n h = first-range (isCut f) (wrongTag before f) (tooMany before f) (malformed before f) (nameTaken before f) n h
+
+refusal-pos : (before : List Field) (f : Field) (n : ℕ) → RefusedWith before f n → n ≢ 0
+refusal-pos before f n h = ne-of-gt (refusal-range before f n h .0)
 
 pub fine-refusal : (before : List Field) (f : Field) → refusal before f ≡ 0 → Fine before f
 fine-refusal before f e = ⊎-elim (λ h. h .0) (λ h. absurd (refusal-pos before f (refusal before f) h e)) (refusal-cases before f)

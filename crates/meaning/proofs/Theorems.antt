@@ -2,15 +2,16 @@
 -- the general ones. Assumes nothing.
 use Prim.Native.Nat.{ℕ, suc, _+_, _≤_, _<_}
 use mathlib.Core.Path.{_≡_, refl, sym, ap, subst, _∙_}
-use mathlib.Core.Logic.{_↔_, _≢_}
+use mathlib.Core.Logic.{_⊎_, inl, inr, _↔_, _≢_}
 use mathlib.Core.Bool.{Bool, true, false, not}
-use mathlib.Core.List.{List, [], _∷_, List·Memᴰ}
+use mathlib.Core.List.{List, [], _∷_, map, List·Memᴰ}
+use native.Mathlib.Nat.{lt-irrefl, le-step}
 use native.Mathlib.Omega.{arith}
 use lib.Dec.{T}
-use lib.ListN.{length, getD}
-use Rattle.meaning.specs.Lists.{All}
+use lib.ListN.{length, getD, take, length-append}
+use Rattle.meaning.specs.Lists.{All, joined}
 use Rattle.meaning.specs.Syntax.{Tree, Trees, node, leaf, _▹_, treeCount, Production, Clause, Query, Rules}
-use Rattle.meaning.specs.Limits.{mostStates}
+use Rattle.meaning.specs.Limits.{mostStates, stateTag, atomTag}
 use Rattle.meaning.specs.Legal.{Legal, Declared, NoneTwice, WellClause, WellQuery}
 use Rattle.meaning.specs.Types.{has, bit, step, IsGround, AreGround, OfType, typesOf}
 use Rattle.meaning.specs.Cells.{cell, start, cells}
@@ -18,12 +19,13 @@ use Rattle.meaning.specs.States.{indexOf, cellOf, tables}
 use Rattle.meaning.specs.Clauses.{AtomSet, IsAtom, marked, Closed, stage, rounds, model, Open, isOpen}
 use Rattle.meaning.specs.Clauses as Clauses
 use Rattle.meaning.specs.Ground.{NoneDerivable}
-use Rattle.meaning.specs.Fields.{Bytes}
+use Rattle.meaning.specs.Fields.{Bytes, cut, encodeField, fields}
 use Rattle.meaning.specs.Refusals.{refused, accepted}
-use Rattle.meaning.specs.Files.{rulesOf}
-use Rattle.meaning.specs.Certificates.{encodeSheet, IsSheetAtom, LaidOut, Carries, InSheet, Valid, sheetAnswer}
+use Rattle.meaning.specs.Files.{rulesOf, fileAnswer}
+use Rattle.meaning.specs.Certificates.{encodeSheet, stateBytes, IsSheetAtom, LaidOut, Carries, InSheet, Valid, sheetAnswer}
 use Rattle.meaning.specs.Calls.{symbolArities, predicateArities, statesOf, stepOf, interpretationOf, tablesOf, roundsOf, modelOf, atomsOf, verdictOf, OrderOf}
 use Rattle.meaning.proofs.Lists.{All-map, All-find}
+use Rattle.meaning.proofs.Answers.{refusal-range, Read, symbolsOf, Given, refused-exact}
 use Rattle.meaning.proofs.Setting.{InRange, Homomorphism, eachState}
 use Rattle.meaning.proofs.Types.{types-exact, declared-allowed}
 use Rattle.meaning.proofs.Rising.{Rising}
@@ -283,3 +285,48 @@ module _ (file : List ℕ) (admitted : Admitted file) where
   written-is-least order is p row listed sheet valid =
       let w = MarkedAtoms.order-exact (length (statesOf file)) (predicateArities file) (modelOf file) order is p row .0 listed in
       model-is-least p row (w .0) .0 (w .1) (InSheet sheet) (valid .closed)
+
+  -- The needed lengths: a place for each table cell and each domain atom.
+  pub tables-needed : length (tablesOf file) ≡ cells (length (statesOf file)) (symbolArities file)
+  unfolding tablesOf
+  tables-needed = States.length-tables (stepOf file) (statesOf file) (symbolArities file)
+
+  pub marks-needed : length (modelOf file) ≡ cells (length (statesOf file)) (predicateArities file)
+  unfolding modelOf model
+  marks-needed = Stages.length-stage (length (statesOf file)) (interpretationOf file) (predicateArities file) clauses (rounds (length (statesOf file)) (interpretationOf file) (predicateArities file) clauses)
+
+-- A written sheet has the same length whatever the order of its atoms.
+pub written-length : (file : List ℕ) (order : List (List ℕ))
+    → OrderOf file order
+    → length (encodeSheet (statesOf file) order) ≡ length (encodeSheet (statesOf file) (atomsOf file))
+unfolding encodeSheet atomsOf
+written-length file order is =
+    let front : List ℕ = joined (map (λ s. encodeField stateTag (stateBytes s)) (statesOf file)) in
+    let atoms : List (List ℕ) → List ℕ = λ l. joined (map (encodeField atomTag) l) in
+    length-append front (atoms order)
+    ∙ ap (λ (n : ℕ). length front + n) (MarkedAtoms.order-length (length (statesOf file)) (predicateArities file) (modelOf file) order is)
+    ∙ sym (length-append front (atoms (atomsOf file)))
+
+-- 8 exactly if no earlier number fits and 17 ground terms have pairwise different sets of types
+pub eight-is-exact : (file : List ℕ) (k : ℕ)
+    → (fileAnswer file ≡ refused 8 k)
+    ↔ (Read file
+    × (k ≡ length (fields file))
+    × List·Memᴰ 0 (symbolsOf file)
+    × States.Differing (symbolsOf file) (length (rulesOf file .types)) (rulesOf file .productions) (suc mostStates))
+eight-is-exact file k =
+    let exact = refused-exact file 8 k (λ (e : _≡_ {A = ℕ} 8 0). omega arith) in
+    let more = States.more-states (symbolsOf file) (length (rulesOf file .types)) (rulesOf file .productions) in (
+      λ e. go (exact .0 e),
+      λ w. exact .1 (inr (inr (inr (w .0, refl, w .1, w .2, more .1 (w .3))))),
+    )
+  where
+    go : Given file 8 k
+        → Read file
+        × (k ≡ length (fields file))
+        × List·Memᴰ 0 (symbolsOf file)
+        × States.Differing (symbolsOf file) (length (rulesOf file .types)) (rulesOf file .productions) (suc mostStates)
+    go (inl w) = let q : _≡_ {A = ℕ} 8 1 = w .1 in absurd (omega arith)
+    go (inr (inl w)) = absurd (lt-irrefl 8 (le-step (refusal-range (take k (fields file)) (getD (fields file) k cut) 8 (w .1 .here) .1)))
+    go (inr (inr (inl w))) = let q : _≡_ {A = ℕ} 8 7 = w .1 in absurd (omega arith)
+    go (inr (inr (inr w))) = (w .0, w .2, w .3, States.more-states (symbolsOf file) (length (rulesOf file .types)) (rulesOf file .productions) .0 (w .4))
