@@ -15,5 +15,6 @@ pub mod Verdicts
 pub mod Soundness
 pub mod MarkedAtoms
 pub mod Certificates
+pub mod Calls
 pub mod Theorems
 pub mod Cases

@@ -89,13 +89,16 @@ filled file before =
       verdicts = written (verdictsOf file) (before .verdicts);
     }
 
+abbrev pub longEnough : List ℕ → Buffers → Bool
+longEnough file before =
+    holds (before .states) (statesOf file)
+    && holds (before .tables) (tablesOf file)
+    && holds (before .marks) (modelOf file)
+    && holds (before .verdicts) (verdictsOf file)
+
 -- 1 to 8, then 9: a buffer is shorter than needed
 unfoldable pub analysisAnswer : List ℕ → Buffers → Answer
-analysisAnswer file before =
-    andThen (fileAnswer file) (refuseUnless
-    (holds (before .states) (statesOf file) && holds (before .tables) (tablesOf file) && holds (before .marks) (modelOf file)
-    && holds (before .verdicts) (verdictsOf file))
-    9)
+analysisAnswer file before = andThen (fileAnswer file) (refuseUnless (longEnough file before) 9)
 
 pub record Analysed : Type 0 where
   pub answer : Answer
@@ -150,10 +153,12 @@ pub record Lent : Type 0 where
   pub tables : List ℕ
   pub marks : List ℕ
 
+abbrev pub lentEnough : List ℕ → Lent → Bool
+lentEnough file before = holds (before .tables) (tablesOf file) && holds (before .marks) (modelOf file)
+
 -- 1 to 8, then 9
 unfoldable pub lentAnswer : List ℕ → Lent → Answer
-lentAnswer file before =
-    andThen (fileAnswer file) (refuseUnless (holds (before .tables) (tablesOf file) && holds (before .marks) (modelOf file)) 9)
+lentAnswer file before = andThen (fileAnswer file) (refuseUnless (lentEnough file before) 9)
 
 -- then 10 to 13
 unfoldable pub checkAnswer : List ℕ → List ℕ → Lent → Answer
