@@ -14,7 +14,7 @@ use Rattle.meaning.specs.Lists.{any, lowest}
 use Rattle.meaning.specs.Syntax.{Production}
 use Rattle.meaning.specs.Limits.{mostFileBytes, mostStates}
 use Rattle.meaning.specs.Fields.{Field, cut, fields, firstField}
-use Rattle.meaning.specs.Refusals.{Answer, refused, accepted, isCut, wrongTag, tooMany, malformed, nameTaken, refusal, firstRefused, noConstant}
+use Rattle.meaning.specs.Refusals.{Answer, refused, accepted, isRefused, isCut, wrongTag, tooMany, malformed, nameTaken, refusal, firstRefused, noConstant}
 use Rattle.meaning.specs.Legal.{arities}
 use Rattle.meaning.specs.Files.{rulesIn, rulesOf, statesFor, lateAnswer, answerAt, fieldsAnswer, fileAnswer}
 use Rattle.meaning.proofs.Lists.{clash, not-not, not-not-intro, not-intro, decide, any-find, any-give, Lowest, lowest-law, lowest-is, lowest-none, cond-yes, cond-no}
@@ -102,34 +102,27 @@ refusal-pos before f n h = ne-of-gt (refusal-range before f n h .0)
 pub fine-refusal : (before : List Field) (f : Field) → refusal before f ≡ 0 → Fine before f
 fine-refusal before f e = ⊎-elim (λ h. h .0) (λ h. absurd (refusal-pos before f (refusal before f) h e)) (refusal-cases before f)
 
--- the test that `firstRefused` makes
-isRefused : List Field → Field → Bool
-isRefused before f = not (eqb (refusal before f) 0)
-
+-- the test of a refused field
 abbrev refusedIn : List Field → ℕ → Bool
 refusedIn fs k = isRefused (take k fs) (getD fs k cut)
 
 refused-number : (before : List Field) (f : Field) → T (isRefused before f) → RefusedWith before f (refusal before f)
-unfolding isRefused
 refused-number before f t =
     ⊎-elim (λ h. absurd (clash (eqb (refusal before f) 0) (subst (λ (n : ℕ). T (eqb n 0)) (sym (h .1)) tt) t)) (λ h. h) (refusal-cases before f)
 
 number-refused : (before : List Field) (f : Field) (n : ℕ) → RefusedWith before f n → T (isRefused before f)
-unfolding isRefused
 number-refused before f n h =
     not-intro (eqb (refusal before f) 0) (λ t. refusal-pos before f n h (sym (refusal-is before f n h) ∙ eqb→eq (refusal before f) 0 t))
 
-not-refused : (before : List Field) (f : Field) → T (not (isRefused before f)) → Fine before f
-unfolding isRefused
-not-refused before f t = fine-refusal before f (eqb→eq (refusal before f) 0 (not-not (eqb (refusal before f) 0) t))
-
-fine-not-refused : (before : List Field) (f : Field) → Fine before f → T (not (isRefused before f))
-unfolding isRefused
-fine-not-refused before f h = subst (λ (n : ℕ). T (not (not (eqb n 0)))) (sym (refusal-fine before f h)) tt
+pub not-refused : (before : List Field) (f : Field) → T (not (isRefused before f)) ↔ Fine before f
+not-refused before f = (
+  λ t. fine-refusal before f (eqb→eq (refusal before f) 0 (not-not (eqb (refusal before f) 0) t)),
+  λ h. subst (λ (n : ℕ). T (not (not (eqb n 0)))) (sym (refusal-fine before f h)) tt,
+)
 
 -- the lowest field that is refused
 pub first-refused : (fs : List Field) (k : ℕ) → firstRefused fs ≡ some k → FirstRefusal fs (refusal (take k fs) (getD fs k cut)) k
-unfolding firstRefused firstField isRefused
+unfolding firstRefused firstField
 first-refused fs k e = go (subst (Lowest (length fs) (refusedIn fs)) e (lowest-law (length fs) (refusedIn fs)))
   where
     go : Lowest (length fs) (refusedIn fs) (some k) → FirstRefusal fs (refusal (take k fs) (getD fs k cut)) k
@@ -137,11 +130,11 @@ first-refused fs k e = go (subst (Lowest (length fs) (refusedIn fs)) e (lowest-l
         record {
           inside = w .0;
           here = refused-number (take k fs) (getD fs k cut) (w .1);
-          lower = λ j lt. not-refused (take j fs) (getD fs j cut) (w .2 j lt);
+          lower = λ j lt. not-refused (take j fs) (getD fs j cut) .0 (w .2 j lt);
         }
 
 pub refused-first : (fs : List Field) (n k : ℕ) → FirstRefusal fs n k → firstRefused fs ≡ some k
-unfolding firstRefused firstField isRefused
+unfolding firstRefused firstField
 refused-first fs n k w =
     lowest-is
     (length fs)
@@ -149,13 +142,13 @@ refused-first fs n k w =
     k
     (w .inside)
     (number-refused (take k fs) (getD fs k cut) n (w .here))
-    (λ j lt. fine-not-refused (take j fs) (getD fs j cut) (w .lower j lt))
+    (λ j lt. not-refused (take j fs) (getD fs j cut) .1 (w .lower j lt))
 
 pub none-refused : (fs : List Field) → (firstRefused fs ≡ none) ↔ ((k : ℕ) → k < length fs → Fine (take k fs) (getD fs k cut))
-unfolding firstRefused firstField isRefused
+unfolding firstRefused firstField
 none-refused fs = (
-  λ e k lt. not-refused (take k fs) (getD fs k cut) (subst (Lowest (length fs) (refusedIn fs)) e (lowest-law (length fs) (refusedIn fs)) k lt),
-  λ h. lowest-none (length fs) (refusedIn fs) (λ k lt. fine-not-refused (take k fs) (getD fs k cut) (h k lt)),
+  λ e k lt. not-refused (take k fs) (getD fs k cut) .0 (subst (Lowest (length fs) (refusedIn fs)) e (lowest-law (length fs) (refusedIn fs)) k lt),
+  λ h. lowest-none (length fs) (refusedIn fs) (λ k lt. not-refused (take k fs) (getD fs k cut) .1 (h k lt)),
 )
 
 -- what is common to an accepted file and to 7 and 8: it is not too long and no field is refused

@@ -22,6 +22,7 @@ use Rattle.meaning.specs.Legal.{NoneTwice, Declared}
 use Rattle.meaning.specs.Cells.{rowOf}
 use Rattle.meaning.specs.Clauses.{AtomSet, IsValuation, statesOf, InstanceIn, instanceIn, Closed}
 use Rattle.meaning.specs.Certificates.{stateBytes, encodeSheet, IsSheetAtom, LaidOut, Carries, InSheet, Valid, isAtomContent, misplaced, statesIn, differ, wrongAtom, among, violated, violatedAt, refusedAt, checkFields, sheetAnswer}
+use Rattle.meaning.proofs.Contents.{declared-exact}
 use Rattle.meaning.proofs.Lists.{decide, trichotomy, T-of, clash, not-not, not-not-intro, not-intro, both, both-of, neither, neither-of, any-find, any-give, all-facts, facts-all, All-map, mem-getD, mem-place, anyBelow-find, anyBelow-give, Lowest, lowest-law, lowest-is, lowest-none, eq-same, same-eq, same-refl}
 use Rattle.meaning.proofs.Fields.{word-halves, fields-each, fields-joined, fields-nil, encodeWhole, fields-whole, FieldBytes, fields-bytes, contentsOf-append, contentsOf-same, contentsOf-other, NoneBy, NoneBy-places, NoField, NoField-append, firstField-none}
 use Rattle.meaning.proofs.Cells.{valuation-of-number, number-of-valuation}
@@ -79,20 +80,6 @@ pub in-sheet : (xs : List ℕ) (atoms : List (List ℕ)) (p : ℕ) (row : List �
 in-sheet xs atoms p row = (
   (λ h. subst (List·Memᴰ (p ∷ row)) (sym (sheet-injective xs (h .0) atoms (h .1) (h .2) .1)) (h .3)),
   (λ h. (xs, atoms, refl, h)),
-)
-
--- a declared predicate or symbol, as a test and as a fact
-declared-fact : (arities : List ℕ) (p n : ℕ) → T (declared arities p n) ↔ Declared arities p n
-declared-fact arities p n = (
-  (λ t.
-      let w = both (ltb p (length arities)) (eqb (getD arities p 0) n) t in
-      (ltb→lt p (length arities) (w .0), eqb→eq (getD arities p 0) n (w .1))),
-  (λ h.
-      both-of
-      (ltb p (length arities))
-      (eqb (getD arities p 0) n)
-      (lt→ltb p (length arities) (h .0))
-      (subst (λ (k : ℕ). T (eqb (getD arities p 0) k)) (h .1) (eqb-refl (getD arities p 0)))),
 )
 
 -- each content has a declared predicate and as many bytes as its arity after it
@@ -287,7 +274,7 @@ none-twice ls = Iff·trans (NoneBy-places (λ seen l. any (same l) seen) [] ls) 
 module _ (m : ℕ) (preds : List ℕ) where
   atom-content : (a : List ℕ) → IsSheetAtom m preds a → T (isAtomContent preds a)
   atom-content [] h = absurd h
-  atom-content (p ∷ row) h = declared-fact preds p (length row) .1 (h .0)
+  atom-content (p ∷ row) h = declared-exact preds p (length row) .1 (h .0)
 
   states-right : (before : List Field) (xs : List ℕ) → NoField (wrongAtom m) before (map stateField xs)
   states-right before [] = tt
@@ -312,7 +299,7 @@ module _ (m : ℕ) (preds : List ℕ) where
             let v = later .0 (k .1) in (
               (
                 (
-                  declared-fact preds p (length row) .0 (h .0),
+                  declared-exact preds p (length row) .0 (h .0),
                   All-map row (λ d. ltb→lt d m) (all-facts (λ d. ltb d m) row (not-not (all (λ d. ltb d m) row) (w .0))),
                 ),
                 v .0,

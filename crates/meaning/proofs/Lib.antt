@@ -8,6 +8,9 @@ pub mod Cells
 pub mod Rising
 pub mod States
 pub mod Fields
+pub mod Contents
+pub mod ByKind
+pub mod Acceptance
 pub mod Stages
 pub mod Sums
 pub mod Model

@@ -25,6 +25,7 @@ use Rattle.meaning.specs.Files.{rulesOf, fileAnswer}
 use Rattle.meaning.specs.Certificates.{encodeSheet, stateBytes, IsSheetAtom, LaidOut, Carries, InSheet, Valid, sheetAnswer}
 use Rattle.meaning.specs.Calls.{symbolArities, predicateArities, statesOf, stepOf, interpretationOf, tablesOf, roundsOf, modelOf, atomsOf, verdictOf, OrderOf}
 use Rattle.meaning.proofs.Lists.{All-map, All-find}
+use Rattle.meaning.proofs.Acceptance.{accepted-legal}
 use Rattle.meaning.proofs.Answers.{refusal-range, Read, symbolsOf, Given, refused-exact}
 use Rattle.meaning.proofs.Setting.{InRange, Homomorphism, eachState}
 use Rattle.meaning.proofs.Types.{types-exact, declared-allowed}
@@ -41,6 +42,10 @@ use Rattle.meaning.proofs.Certificates as Certificates
 pub record Admitted (file : List ℕ) : Type 0 where
   pub legal : Legal (rulesOf file)
   pub few : length (statesOf file) ≤ mostStates
+
+pub accepted-is-admitted : (file : List ℕ) → Bytes file → fileAnswer file ≡ accepted → Admitted file
+unfolding statesOf symbolArities
+accepted-is-admitted file bytes e = let w = accepted-legal file bytes e in record { legal = w .0; few = w .2 }
 
 -- a verdict as a byte
 bit-one : (b : Bool) → (bit b ≡ 1) ↔ T b

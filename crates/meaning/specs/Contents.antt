@@ -81,7 +81,10 @@ module _ (arities : List ℕ) (variables : ℕ) where
       ts ← termsWithin k n (t .rest)
       some (record { value = t .value ▸ ts .value; rest = ts .rest })
 
-  -- n terms off the front of some bytes; a call that takes no byte is followed by one that does, so the bound is enough
+  -- a term, and n terms, off the front of some bytes; a call that takes no byte is followed by one that does, so the bounds are enough
+  unfoldable pub readTerm : List ℕ → Option (Read Term)
+  readTerm bytes = termWithin (2 * length bytes) bytes
+
   unfoldable pub readTerms : ℕ → List ℕ → Option (Read Terms)
   readTerms n bytes = termsWithin (suc (2 * length bytes)) n bytes
 

@@ -104,8 +104,11 @@ refusal before f =
     (cond (nameTaken before f) 5 0))))
 
 -- the lowest field that is refused
+abbrev pub isRefused : List Field → Field → Bool
+isRefused before f = not (eqb (refusal before f) 0)
+
 unfoldable pub firstRefused : List Field → Option ℕ
-firstRefused fs = firstField (λ before f. not (eqb (refusal before f) 0)) fs
+firstRefused fs = firstField isRefused fs
 
 -- 7: no symbol of arity 0
 abbrev pub noConstant : List ℕ → Bool
