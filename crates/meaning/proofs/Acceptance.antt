@@ -16,7 +16,7 @@ use Rattle.meaning.specs.Fields.{Bytes, Field, whole, cut, fields, conte
 use Rattle.meaning.specs.Contents.{isSome, isName, isNamed, isProduction, readClause, readQuery}
 use Rattle.meaning.specs.Encoding.{encodeNamed, encodeProduction, encodeClause, encodeQuery, contentsFor, encodeKind, kinds, encodeRules}
 use Rattle.meaning.specs.Legal.{arities, names, WellProduction, WellClause, WellQuery, NoneTwice, Legal}
-use Rattle.meaning.specs.Refusals.{isRefused, accepted, contents, firstByte, aritiesIn, typesIn, laidOut, isCut, wrongTag, tooMany, malformed, nameTaken, refusal, firstRefused}
+use Rattle.meaning.specs.Refusals.{isRefused, accepted, contents, firstByte, aritiesIn, typesIn, laidOut, isCut, firstRefused}
 use Rattle.meaning.specs.Files.{readAll, named, productionOf, rulesIn, rulesOf, statesFor, fileAnswer}
 use Rattle.meaning.proofs.Lists.{joined-append, All-map}
 use Rattle.meaning.proofs.Contents.{isSome-give, cons-same, conditionTypes, isNamed-exact, isProduction-exact, readClause-back, readClause-exact, readQuery-back, readQuery-exact}

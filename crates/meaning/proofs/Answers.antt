@@ -1,13 +1,13 @@
 -- The answer to a file is the first number of 01's table that fits, at the lowest place where it fits. Assumes nothing.
-use Prim.Native.Nat.{ℕ, zero, suc, _≤_, _<_}
+use Prim.Native.Nat.{ℕ, _≤_, _<_}
 use mathlib.Core.Path.{_≡_, refl, sym, ap, ap₂, subst, subst₂, _∙_}
 use mathlib.Core.Logic.{_⊎_, inl, inr, ⊎-elim, _↔_, _≢_}
-use mathlib.Core.Bool.{Bool, true, false, cond, not, _&&_}
-use mathlib.Core.List.{List, [], _∷_, List·Memᴰ, Memᴰ·cast}
+use mathlib.Core.Bool.{Bool, true, false, cond, not}
+use mathlib.Core.List.{List, List·Memᴰ, Memᴰ·cast}
 use mathlib.Core.Option.{Option, none, some}
 use native.Mathlib.Nat.{ne-of-gt}
 use native.Mathlib.Omega.{arith}
-use lib.Dec.{T, eqb, leb, ltb, ltb→lt, lt→ltb, nltb→le, eqb→eq, eqb-refl}
+use lib.Dec.{T, eqb, ltb, ltb→lt, lt→ltb, nltb→le, eqb→eq}
 use lib.Arith.{le→nltb}
 use lib.ListN.{length, getD, take}
 use Rattle.meaning.specs.Lists.{any, lowest}
@@ -16,7 +16,7 @@ use Rattle.meaning.specs.Limits.{mostFileBytes, mostStates}
 use Rattle.meaning.specs.Fields.{Field, cut, fields, firstField}
 use Rattle.meaning.specs.Refusals.{Answer, refused, accepted, isRefused, isCut, wrongTag, tooMany, malformed, nameTaken, refusal, firstRefused, noConstant}
 use Rattle.meaning.specs.Legal.{arities}
-use Rattle.meaning.specs.Files.{rulesIn, rulesOf, statesFor, lateAnswer, answerAt, fieldsAnswer, fileAnswer}
+use Rattle.meaning.specs.Files.{rulesOf, statesFor, lateAnswer, answerAt, fieldsAnswer, fileAnswer}
 use Rattle.meaning.proofs.Lists.{clash, not-not, not-not-intro, not-intro, decide, any-find, any-give, Lowest, lowest-law, lowest-is, lowest-none, cond-yes, cond-no}
 
 -- n is the number of the first of five tests that passes: 2, 3, 6, 4, 5

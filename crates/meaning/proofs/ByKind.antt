@@ -17,7 +17,7 @@ use Rattle.meaning.specs.Lists.{any, All, same}
 use Rattle.meaning.specs.Limits.{Kind, symbol, type, production, predicate, clause, query, tagOf, mostOf, mostContent}
 use Rattle.meaning.specs.Fields.{Field, whole, cut, contentsOf}
 use Rattle.meaning.specs.Contents.{isSome, isProduction, readClause, readQuery}
-use Rattle.meaning.specs.Refusals.{isRefused, kindOf, testKind, contents, firstByte, namesIn, laidOut, lastTag, refusal}
+use Rattle.meaning.specs.Refusals.{isRefused, kindOf, testKind, contents, firstByte, namesIn, laidOut, lastTag}
 use Rattle.meaning.specs.Legal.{NoneTwice}
 use Rattle.meaning.proofs.Lists.{decide, clash, not-not, not-not-intro, not-intro, any-find, any-give, any-append, All-append, All-split, mem-getD, mem-place, same-eq, eq-same, cond-yes, cond-no}
 use Rattle.meaning.proofs.Contents.{Post, post-at, post-cond, isSome-find, isSome-give, cons-same}

@@ -6,7 +6,7 @@ use mathlib.Core.List.{List, [], _∷_, _++_}
 use lib.Dec.{T}
 use lib.ListN.{length}
 use Rattle.meaning.specs.Lists.{any, all, same, joined}
-use Rattle.meaning.specs.Syntax.{Term, var, app, end, _▸_, Named, Production, Atom, Clause, Condition, isOf, notOf, free, Query, Rules}
+use Rattle.meaning.specs.Syntax.{Term, var, app, end, _▸_, Named, Production, Atom, Clause, Condition, isOf, notOf, Query}
 use Rattle.meaning.specs.Encoding.{encodeRules}
 use Rattle.meaning.specs.Fields.{fields, firstField}
 use Rattle.meaning.specs.Contents.{termWithin, readTerms, readAtom, readAtoms, readClause, readConditions, readQuery}

@@ -18,7 +18,7 @@ use Rattle.meaning.specs.Limits.{stateTag, atomTag}
 use Rattle.meaning.specs.Fields.{Bytes, Field, whole, cut, word, fields, contentsOf, encodeField, firstField}
 use Rattle.meaning.specs.Contents.{declared}
 use Rattle.meaning.specs.Refusals.{Answer, refused, accepted, isCut}
-use Rattle.meaning.specs.Legal.{NoneTwice, Declared}
+use Rattle.meaning.specs.Legal.{NoneTwice}
 use Rattle.meaning.specs.Cells.{rowOf}
 use Rattle.meaning.specs.Clauses.{AtomSet, IsValuation, statesOf, InstanceIn, instanceIn, Closed}
 use Rattle.meaning.specs.Certificates.{stateBytes, encodeSheet, IsSheetAtom, LaidOut, Carries, InSheet, Valid, isAtomContent, misplaced, statesIn, differ, wrongAtom, among, violated, violatedAt, refusedAt, checkFields, sheetAnswer}

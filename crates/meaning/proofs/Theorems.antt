@@ -2,20 +2,20 @@
 -- the general ones. Assumes nothing.
 use Prim.Native.Nat.{ℕ, suc, _+_, _≤_, _<_}
 use mathlib.Core.Path.{_≡_, refl, sym, ap, subst, _∙_}
-use mathlib.Core.Logic.{_⊎_, inl, inr, _↔_, _≢_}
-use mathlib.Core.Bool.{Bool, true, false, not}
-use mathlib.Core.List.{List, [], _∷_, map, List·Memᴰ}
+use mathlib.Core.Logic.{inl, inr, _↔_, _≢_}
+use mathlib.Core.Bool.{Bool, true, false}
+use mathlib.Core.List.{List, _∷_, map, List·Memᴰ}
 use native.Mathlib.Nat.{lt-irrefl, le-step}
 use native.Mathlib.Omega.{arith}
 use lib.Dec.{T}
 use lib.ListN.{length, getD, take, length-append}
 use Rattle.meaning.specs.Lists.{All, joined}
-use Rattle.meaning.specs.Syntax.{Tree, Trees, node, leaf, _▹_, treeCount, Production, Clause, Query, Rules}
+use Rattle.meaning.specs.Syntax.{Tree, Trees, node, leaf, _▹_, treeCount, Production, Clause, Query}
 use Rattle.meaning.specs.Limits.{mostStates, stateTag, atomTag}
 use Rattle.meaning.specs.Legal.{Legal, Declared, NoneTwice, WellClause, WellQuery}
-use Rattle.meaning.specs.Types.{has, bit, step, IsGround, AreGround, OfType, typesOf}
+use Rattle.meaning.specs.Types.{has, bit, IsGround, AreGround, OfType, typesOf}
 use Rattle.meaning.specs.Cells.{cell, start, cells}
-use Rattle.meaning.specs.States.{indexOf, cellOf, tables}
+use Rattle.meaning.specs.States.{indexOf, tables}
 use Rattle.meaning.specs.Clauses.{AtomSet, IsAtom, marked, Closed, stage, rounds, model, Open, isOpen}
 use Rattle.meaning.specs.Clauses as Clauses
 use Rattle.meaning.specs.Ground.{NoneDerivable}

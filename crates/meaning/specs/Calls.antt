@@ -1,11 +1,11 @@
 -- The three public calls (01, "What is handed back"): number, place, counts and every byte of every lent buffer afterwards, as a function
 -- of the file, the sheet and the buffers before. Of a written sheet the order of the atoms is left free, and named as such.
-use Prim.Native.Nat.{ℕ, zero, suc}
-use mathlib.Core.Bool.{Bool, true, false, cond, not, _&&_, _||_}
-use mathlib.Core.List.{List, [], _∷_, _++_, map}
+use Prim.Native.Nat.{ℕ, zero}
+use mathlib.Core.Bool.{Bool, cond, _&&_}
+use mathlib.Core.List.{List, _++_, map}
 use lib.Dec.{eqb, leb}
 use lib.ListN.{length, drop, replicate}
-use Rattle.meaning.specs.Syntax.{Rules, Query}
+use Rattle.meaning.specs.Syntax.{Query}
 use Rattle.meaning.specs.Legal.{arities}
 use Rattle.meaning.specs.Types.{step, bit}
 use Rattle.meaning.specs.States.{cellOf, tables}

@@ -1,11 +1,11 @@
 -- Certificates (01: the sheet): what it is for bytes to be laid out, to carry the states, to be closed and to hold an atom; the check's
 -- answers as tests; what a writer may write. A domain atom stands here as in its field: the predicate, then the row of states.
-use Prim.Native.Nat.{ℕ, zero, suc, _^_, _/_, _%_, _<_, max}
+use Prim.Native.Nat.{ℕ, zero, suc, _^_, _/_, _%_, max}
 use mathlib.Core.Path.{_≡_}
 use mathlib.Core.Bool.{Bool, true, false, cond, not, _&&_, _||_}
 use mathlib.Core.List.{List, [], _∷_, _++_, map, List·Memᴰ, List·Permᴰ}
 use mathlib.Core.Option.{Option, none, some}
-use lib.Dec.{T, eqb, leb, ltb}
+use lib.Dec.{eqb, ltb}
 use lib.ListN.{length, getD}
 use Rattle.meaning.specs.Lists.{any, all, anyBelow, All, same, lowest, joined, table}
 use Rattle.meaning.specs.Syntax.{Clause}

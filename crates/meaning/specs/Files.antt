@@ -1,6 +1,6 @@
 -- What a rule file says, and the number with which it is refused (01, "What is handed back"): 1, the first field refused by 2 to 6, 7, 8.
 use Prim.Native.Nat.{ℕ}
-use mathlib.Core.Bool.{Bool, cond}
+use mathlib.Core.Bool.{cond}
 use mathlib.Core.List.{List, [], _∷_, _++_, map}
 use mathlib.Core.Option.{Option, none, some}
 use lib.Dec.{ltb}

@@ -2,7 +2,7 @@
 use Prim.Native.Nat.{ℕ, _<_, _≤_}
 use mathlib.Core.Path.{_≡_}
 use mathlib.Core.Logic.{_≢_}
-use mathlib.Core.List.{List, [], _∷_, map, List·Memᴰ}
+use mathlib.Core.List.{List, [], map, List·Memᴰ}
 use lib.Dec.{T}
 use lib.ListN.{length, getD}
 use Rattle.meaning.specs.Lists.{All}

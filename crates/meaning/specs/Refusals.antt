@@ -1,5 +1,5 @@
 -- The refusals of a rule file (01, "What is handed back"): each a test named after its row, over a field and the fields before it.
-use Prim.Native.Nat.{ℕ, zero, suc}
+use Prim.Native.Nat.{ℕ}
 use mathlib.Core.Bool.{Bool, true, false, cond, not, _||_}
 use mathlib.Core.List.{List, [], _∷_, map}
 use mathlib.Core.Option.{Option, none, some}

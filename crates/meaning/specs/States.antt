@@ -1,7 +1,7 @@
 -- States and tables (01), by the book's determinisation: begin with nothing; for each symbol f and all states s1, .., sn already found
 -- add the set of f over them, the set with no type included, until nothing is new.
 use Prim.Native.Nat.{ℕ, zero, suc, _^_}
-use mathlib.Core.Bool.{Bool, true, false, cond}
+use mathlib.Core.Bool.{true, false, cond}
 use mathlib.Core.List.{List, [], _∷_, _++_, map}
 use lib.Dec.{eqb, ltb}
 use lib.ListN.{length, getD}
