@@ -11,12 +11,11 @@ use lib.Dec.{T, eqb, ltb, ltb→lt, lt→ltb, nltb→le, eqb→eq}
 use lib.Arith.{le→nltb}
 use lib.ListN.{length, getD, take}
 use Rattle.meaning.specs.Lists.{any, lowest}
-use Rattle.meaning.specs.Syntax.{Production}
 use Rattle.meaning.specs.Limits.{mostFileBytes, mostStates}
 use Rattle.meaning.specs.Fields.{Field, cut, fields, firstField}
-use Rattle.meaning.specs.Refusals.{Answer, refused, accepted, isRefused, isCut, wrongTag, tooMany, malformed, nameTaken, refusal, firstRefused, noConstant}
+use Rattle.meaning.specs.Refusals.{Answer, refused, accepted, ok, andThen, refuseIf, isRefused, isCut, wrongTag, tooMany, malformed, nameTaken, refusal, firstRefused, noConstant}
 use Rattle.meaning.specs.Legal.{arities}
-use Rattle.meaning.specs.Files.{rulesOf, statesFor, lateAnswer, answerAt, fieldsAnswer, fileAnswer}
+use Rattle.meaning.specs.Files.{rulesOf, statesFor, answerAt, readAnswer, fileAnswer}
 use Rattle.meaning.proofs.Lists.{clash, not-not, not-not-intro, not-intro, decide, any-find, any-give, Lowest, lowest-law, lowest-is, lowest-none, cond-yes, cond-no}
 
 -- n is the number of the first of five tests that passes: 2, 3, 6, 4, 5
@@ -151,7 +150,26 @@ none-refused fs = (
   λ h. lowest-none (length fs) (refusedIn fs) (λ k lt. not-refused (take k fs) (getD fs k cut) .1 (h k lt)),
 )
 
--- what is common to an accepted file and to 7 and 8: it is not too long and no field is refused
+-- one answer after another
+pub then-next : (a b : Answer) → a .number ≡ 0 → andThen a b ≡ b
+then-next a b e = cond-yes (ok a) b a (subst (λ (n : ℕ). T (eqb n 0)) (sym e) tt)
+
+pub then-first : (a b : Answer) → a .number ≢ 0 → andThen a b ≡ a
+then-first a b h = cond-no (ok a) b a (not-intro (ok a) (λ t. h (eqb→eq (a .number) 0 t)))
+
+pub if-yes : (test : Bool) (n k : ℕ) → T test → refuseIf test n k ≡ refused n k
+if-yes test n k t = cond-yes test (refused n k) accepted t
+
+pub if-no : (test : Bool) (n k : ℕ) → T (not test) → refuseIf test n k ≡ accepted
+if-no test n k t = cond-no test (refused n k) accepted t
+
+number-of : {a b : Answer} → a ≡ b → a .number ≡ b .number
+number-of e = ap (λ (a : Answer). a .number) e
+
+place-of : {a b : Answer} → a ≡ b → a .place ≡ b .place
+place-of e = ap (λ (a : Answer). a .place) e
+
+-- it is not too long and no field is refused
 pub record Read (file : List ℕ) : Type 0 where
   pub size : length file ≤ mostFileBytes
   pub fine : (k : ℕ) → k < length (fields file) → Fine (take k (fields file)) (getD (fields file) k cut)
@@ -162,149 +180,176 @@ symbolsOf file = arities (rulesOf file .symbols)
 abbrev pub statesOfFile : List ℕ → List ℕ
 statesOfFile file = statesFor (symbolsOf file) (length (rulesOf file .types)) (rulesOf file .productions)
 
--- the column "given when" of 01's table, with its order: 1, then the first field refused, then 7, then 8
-abbrev pub Given : List ℕ → ℕ → ℕ → Type 0
-Given file n k =
+-- the column "given when" of 01's table for 1 to 7, with its order: 1, then the first field refused, then 7
+abbrev pub GivenReading : List ℕ → ℕ → ℕ → Type 0
+GivenReading file n k =
     ((mostFileBytes < length file) × (n ≡ 1) × (k ≡ 0))
     ⊎ (((length file ≤ mostFileBytes) × FirstRefusal (fields file) n k)
-    ⊎ ((Read file × (n ≡ 7) × (k ≡ length (fields file)) × ¬ List·Memᴰ 0 (symbolsOf file))
-    ⊎ (Read file × (n ≡ 8) × (k ≡ length (fields file)) × List·Memᴰ 0 (symbolsOf file) × (mostStates < length (statesOfFile file)))))
+    ⊎ (Read file × (n ≡ 7) × (k ≡ length (fields file)) × ¬ List·Memᴰ 0 (symbolsOf file)))
+
+-- and then 8
+abbrev pub Given : List ℕ → ℕ → ℕ → Type 0
+Given file n k =
+    GivenReading file n k
+    ⊎ (Read file × (n ≡ 8) × (k ≡ length (fields file)) × List·Memᴰ 0 (symbolsOf file) × (mostStates < length (statesOfFile file)))
 
 abbrev pub Accepted : List ℕ → Type 0
 Accepted file = Read file × List·Memᴰ 0 (symbolsOf file) × (length (statesOfFile file) ≤ mostStates)
 
 -- 7: a symbol of arity 0
-constant-of : (ns : List ℕ) → T (not (noConstant ns)) → List·Memᴰ 0 ns
-constant-of ns t =
-    let w = any-find (λ n. eqb n 0) ns (not-not (any (λ n. eqb n 0) ns) t) in Memᴰ·cast (sym (eqb→eq (w .0) 0 (w .2))) (w .1)
+constant : (ns : List ℕ) → T (not (noConstant ns)) ↔ List·Memᴰ 0 ns
+constant ns = (
+  λ t. let w = any-find (λ n. eqb n 0) ns (not-not (any (λ n. eqb n 0) ns) t) in Memᴰ·cast (sym (eqb→eq (w .0) 0 (w .2))) (w .1),
+  λ m. not-not-intro (any (λ n. eqb n 0) ns) (any-give (λ n. eqb n 0) ns 0 m tt),
+)
 
-constant-is : (ns : List ℕ) → List·Memᴰ 0 ns → T (not (noConstant ns))
-constant-is ns m = not-not-intro (any (λ n. eqb n 0) ns) (any-give (λ n. eqb n 0) ns 0 m tt)
+no-constant : (ns : List ℕ) → T (noConstant ns) ↔ (¬ List·Memᴰ 0 ns)
+no-constant ns = (
+  λ t m. clash (any (λ n. eqb n 0) ns) (any-give (λ n. eqb n 0) ns 0 m tt) t,
+  λ h. not-intro (any (λ n. eqb n 0) ns) (λ t. h (constant ns .0 (not-not-intro (any (λ n. eqb n 0) ns) t))),
+)
 
-no-constant-of : (ns : List ℕ) → T (noConstant ns) → ¬ List·Memᴰ 0 ns
-no-constant-of ns t m = clash (any (λ n. eqb n 0) ns) (any-give (λ n. eqb n 0) ns 0 m tt) t
-
-no-constant-is : (ns : List ℕ) → ¬ List·Memᴰ 0 ns → T (noConstant ns)
-no-constant-is ns h = not-intro (any (λ n. eqb n 0) ns) (λ t. h (constant-of ns (not-not-intro (any (λ n. eqb n 0) ns) t)))
-
--- the answer after the fields, by whether there is a constant and how many states there are
-late-cases : (symbols : List ℕ) (types : ℕ) (productions : List Production) (count : ℕ)
-    → (List·Memᴰ 0 symbols × (length (statesFor symbols types productions) ≤ mostStates) × (lateAnswer symbols types productions count ≡ accepted))
-    ⊎ (((¬ List·Memᴰ 0 symbols) × (lateAnswer symbols types productions count ≡ refused 7 count))
-    ⊎ (List·Memᴰ 0 symbols × (mostStates < length (statesFor symbols types productions)) × (lateAnswer symbols types productions count ≡ refused 8 count)))
-unfolding lateAnswer
-late-cases symbols types productions count = go (decide (noConstant symbols)) (decide many)
-  where
-    found : ℕ
-    found = length (statesFor symbols types productions)
-
-    many : Bool
-    many = ltb mostStates found
-
-    last : Answer
-    last = cond many (refused 8 count) accepted
-
-    go : T (noConstant symbols) ⊎ T (not (noConstant symbols))
-        → T many ⊎ T (not many)
-        → (List·Memᴰ 0 symbols × (found ≤ mostStates) × (cond (noConstant symbols) (refused 7 count) last ≡ accepted))
-        ⊎ (((¬ List·Memᴰ 0 symbols) × (cond (noConstant symbols) (refused 7 count) last ≡ refused 7 count))
-        ⊎ (List·Memᴰ 0 symbols × (mostStates < found) × (cond (noConstant symbols) (refused 7 count) last ≡ refused 8 count)))
-    go (inl t) u = inr (inl (no-constant-of symbols t, cond-yes (noConstant symbols) (refused 7 count) last t))
-    go (inr t) (inl u) =
-        inr (inr (
-          constant-of symbols t,
-          ltb→lt mostStates found u,
-          cond-no (noConstant symbols) (refused 7 count) last t ∙ cond-yes many (refused 8 count) accepted u,
-        ))
-    go (inr t) (inr u) =
-        inl (
-          constant-of symbols t,
-          nltb→le mostStates found u,
-          cond-no (noConstant symbols) (refused 7 count) last t ∙ cond-no many (refused 8 count) accepted u,
-        )
-
--- a file is accepted, or some number is given
-pub answer-cases : (file : List ℕ)
-    → (Accepted file × (fileAnswer file ≡ accepted)) ⊎ Given file (fileAnswer file .number) (fileAnswer file .place)
-unfolding fileAnswer fieldsAnswer rulesOf
-answer-cases file = go (decide long)
+-- Reading: the file can be read and has a constant, or one of 1 to 7 is given.
+read-cases : (file : List ℕ)
+    → (Read file × List·Memᴰ 0 (symbolsOf file) × (readAnswer file ≡ accepted))
+    ⊎ GivenReading file (readAnswer file .number) (readAnswer file .place)
+unfolding readAnswer rulesOf
+read-cases file = go (decide long)
   where
     long : Bool
     long = ltb mostFileBytes (length file)
 
-    Goal : Answer → Type 0
-    Goal a = (Accepted file × (a ≡ accepted)) ⊎ Given file (a .number) (a .place)
+    after : Answer
+    after = answerAt (fields file) (firstRefused (fields file))
 
-    late : Read file → Goal (answerAt (fields file) none)
-    late r =
-        ⊎-elim
-        (λ w. inl ((r, w .0, w .1), w .2))
-        (⊎-elim
-        (λ w. inr (inr (inr (inl (r, ap (λ (a : Answer). a .number) (w .1), ap (λ (a : Answer). a .place) (w .1), w .0)))))
-        (λ w. inr (inr (inr (inr (r, ap (λ (a : Answer). a .number) (w .2), ap (λ (a : Answer). a .place) (w .2), w .0, w .1))))))
-        (late-cases (symbolsOf file) (length (rulesOf file .types)) (rulesOf file .productions) (length (fields file)))
+    Goal : Answer → Type 0
+    Goal a = (Read file × List·Memᴰ 0 (symbolsOf file) × (a ≡ accepted)) ⊎ GivenReading file (a .number) (a .place)
+
+    none : Bool
+    none = noConstant (symbolsOf file)
+
+    last : Read file → T none ⊎ T (not none) → Goal (refuseIf none 7 (length (fields file)))
+    last r (inl t) =
+        let e = if-yes none 7 (length (fields file)) t in inr (inr (inr (r, number-of e, place-of e, no-constant (symbolsOf file) .0 t)))
+    last r (inr t) = inl (r, constant (symbolsOf file) .0 t, if-no none 7 (length (fields file)) t)
 
     at : (o : Option ℕ) → firstRefused (fields file) ≡ o → length file ≤ mostFileBytes → Goal (answerAt (fields file) o)
-    at none e le = late (record { size = le; fine = none-refused (fields file) .0 e })
+    at Option.none e le = last (record { size = le; fine = none-refused (fields file) .0 e }) (decide none)
     at (some k) e le = inr (inr (inl (le, first-refused (fields file) k e)))
 
-    go : T long ⊎ T (not long) → Goal (cond long (refused 1 0) (answerAt (fields file) (firstRefused (fields file))))
-    go (inl t) = subst Goal (sym (cond-yes long (refused 1 0) _ t)) (inr (inl (ltb→lt mostFileBytes (length file) t, refl, refl)))
-    go (inr t) = subst Goal (sym (cond-no long (refused 1 0) _ t)) (at (firstRefused (fields file)) refl (nltb→le mostFileBytes (length file) t))
+    go : T long ⊎ T (not long) → Goal (andThen (refuseIf long 1 0) after)
+    go (inl t) = subst (λ (a : Answer). Goal (andThen a after)) (sym (if-yes long 1 0 t)) (inr (inl (ltb→lt mostFileBytes (length file) t, refl, refl)))
+    go (inr t) =
+        subst (λ (a : Answer). Goal (andThen a after)) (sym (if-no long 1 0 t))
+        (at (firstRefused (fields file)) refl (nltb→le mostFileBytes (length file) t))
 
 -- the other way: each number is given where it fits
-fields-answer : (file : List ℕ) → length file ≤ mostFileBytes → fileAnswer file ≡ fieldsAnswer (fields file)
-unfolding fileAnswer
-fields-answer file le = cond-no (ltb mostFileBytes (length file)) (refused 1 0) (fieldsAnswer (fields file)) (le→nltb mostFileBytes (length file) le)
+fields-answer : (file : List ℕ) → length file ≤ mostFileBytes → readAnswer file ≡ answerAt (fields file) (firstRefused (fields file))
+unfolding readAnswer
+fields-answer file le = then-next (refuseIf (ltb mostFileBytes (length file)) 1 0) _ (number-of (if-no (ltb mostFileBytes (length file)) 1 0 (le→nltb mostFileBytes (length file) le)))
 
-read-answer : (file : List ℕ)
-    → Read file
-    → fileAnswer file ≡ lateAnswer (symbolsOf file) (length (rulesOf file .types)) (rulesOf file .productions) (length (fields file))
-unfolding fieldsAnswer rulesOf
+read-answer : (file : List ℕ) → Read file → readAnswer file ≡ refuseIf (noConstant (symbolsOf file)) 7 (length (fields file))
+unfolding rulesOf
 read-answer file r = fields-answer file (r .size) ∙ ap (answerAt (fields file)) (none-refused (fields file) .1 (r .fine))
 
-pub given-answer : (file : List ℕ) (n k : ℕ) → Given file n k → fileAnswer file ≡ refused n k
-unfolding fileAnswer fieldsAnswer lateAnswer
-given-answer file n k (inl (w)) =
-    cond-yes (ltb mostFileBytes (length file)) (refused 1 0) (fieldsAnswer (fields file)) (lt→ltb mostFileBytes (length file) (w .0))
-    ∙ ap₂ refused (sym (w .1)) (sym (w .2))
-given-answer file n k (inr (inl w)) =
+reading-answer : (file : List ℕ) (n k : ℕ) → GivenReading file n k → readAnswer file ≡ refused n k
+unfolding readAnswer
+reading-answer file n k (inl w) =
+    let long : Bool = ltb mostFileBytes (length file) in
+    let e = if-yes long 1 0 (lt→ltb mostFileBytes (length file) (w .0)) in
+    then-first (refuseIf long 1 0) _ (λ z. let q : _≡_ {A = ℕ} 1 0 = sym (number-of e) ∙ z in omega arith) ∙ (e ∙ ap₂ refused (sym (w .1)) (sym (w .2)))
+reading-answer file n k (inr (inl w)) =
     fields-answer file (w .0)
     ∙ (ap (answerAt (fields file)) (refused-first (fields file) n k (w .1))
     ∙ ap (λ (i : ℕ). refused i k) (refusal-is (take k (fields file)) (getD (fields file) k cut) n (w .1 .here)))
-given-answer file n k (inr (inr (inl w))) =
+reading-answer file n k (inr (inr w)) =
     read-answer file (w .0)
-    ∙ (cond-yes (noConstant (symbolsOf file)) (refused 7 (length (fields file))) _ (no-constant-is (symbolsOf file) (w .3))
-    ∙ ap₂ refused (sym (w .1)) (sym (w .2)))
-given-answer file n k (inr (inr (inr w))) =
-    read-answer file (w .0)
-    ∙ (cond-no (noConstant (symbolsOf file)) (refused 7 (length (fields file))) _ (constant-is (symbolsOf file) (w .3))
-    ∙ (cond-yes (ltb mostStates (length (statesOfFile file))) (refused 8 (length (fields file))) accepted (lt→ltb mostStates (length (statesOfFile file)) (w .4))
-    ∙ ap₂ refused (sym (w .1)) (sym (w .2))))
+    ∙ (if-yes (noConstant (symbolsOf file)) 7 (length (fields file)) (no-constant (symbolsOf file) .1 (w .3)) ∙ ap₂ refused (sym (w .1)) (sym (w .2)))
 
-accepted-answer : (file : List ℕ) → Accepted file → fileAnswer file ≡ accepted
-unfolding lateAnswer
-accepted-answer file w =
-    read-answer file (w .0)
-    ∙ (cond-no (noConstant (symbolsOf file)) (refused 7 (length (fields file))) _ (constant-is (symbolsOf file) (w .1))
-    ∙ cond-no (ltb mostStates (length (statesOfFile file))) (refused 8 (length (fields file))) accepted (le→nltb mostStates (length (statesOfFile file)) (w .2)))
+readable-answer : (file : List ℕ) → Read file → List·Memᴰ 0 (symbolsOf file) → readAnswer file ≡ accepted
+readable-answer file r m = read-answer file r ∙ if-no (noConstant (symbolsOf file)) 7 (length (fields file)) (constant (symbolsOf file) .1 m)
 
 -- a number that is given is no 0
+reading-pos : (file : List ℕ) (n k : ℕ) → GivenReading file n k → n ≢ 0
+reading-pos file n k (inl w) = let q = w .1 in omega arith
+reading-pos file n k (inr (inl w)) = refusal-pos (take k (fields file)) (getD (fields file) k cut) n (w .1 .here)
+reading-pos file n k (inr (inr w)) = let q = w .1 in omega arith
+
+-- Reading refuses with the first of 1 to 7 that fits, at the lowest place where it fits.
+pub read-refused : (file : List ℕ) (n k : ℕ) → n ≢ 0 → (readAnswer file ≡ refused n k) ↔ GivenReading file n k
+read-refused file n k pos = (
+  λ e.
+      ⊎-elim
+      (λ w. absurd (pos (number-of (sym e ∙ w .2))))
+      (λ w. subst₂ (GivenReading file) (number-of e) (place-of e) w)
+      (read-cases file),
+  reading-answer file n k,
+)
+
+pub read-accepted : (file : List ℕ) → (readAnswer file ≡ accepted) ↔ (Read file × List·Memᴰ 0 (symbolsOf file))
+read-accepted file = (
+  λ e.
+      ⊎-elim
+      (λ w. (w .0, w .1))
+      (λ w. absurd (reading-pos file (readAnswer file .number) (readAnswer file .place) w (number-of e)))
+      (read-cases file),
+  λ w. readable-answer file (w .0) (w .1),
+)
+
+-- the same with 8 after it
+many : List ℕ → Bool
+many file = ltb mostStates (length (statesOfFile file))
+
+after-reading : (file : List ℕ) → readAnswer file ≡ accepted → fileAnswer file ≡ refuseIf (many file) 8 (length (fields file))
+unfolding fileAnswer many
+after-reading file e = then-next (readAnswer file) _ (number-of e)
+
+given-answer : (file : List ℕ) (n k : ℕ) → Given file n k → fileAnswer file ≡ refused n k
+unfolding fileAnswer many
+given-answer file n k (inl w) =
+    let e = reading-answer file n k w in
+    then-first (readAnswer file) _ (λ z. reading-pos file n k w (sym (number-of e) ∙ z)) ∙ e
+given-answer file n k (inr w) =
+    after-reading file (readable-answer file (w .0) (w .3))
+    ∙ (if-yes (many file) 8 (length (fields file)) (lt→ltb mostStates (length (statesOfFile file)) (w .4)) ∙ ap₂ refused (sym (w .1)) (sym (w .2)))
+
+accepted-answer : (file : List ℕ) → Accepted file → fileAnswer file ≡ accepted
+unfolding many
+accepted-answer file w =
+    after-reading file (readable-answer file (w .0) (w .1))
+    ∙ if-no (many file) 8 (length (fields file)) (le→nltb mostStates (length (statesOfFile file)) (w .2))
+
+answer-cases : (file : List ℕ)
+    → (Accepted file × (fileAnswer file ≡ accepted)) ⊎ ((n : ℕ) × (k : ℕ) × Given file n k × (fileAnswer file ≡ refused n k))
+unfolding many
+answer-cases file = ⊎-elim readable refusing (read-cases file)
+  where
+    Goal : Type 0
+    Goal = (Accepted file × (fileAnswer file ≡ accepted)) ⊎ ((n : ℕ) × (k : ℕ) × Given file n k × (fileAnswer file ≡ refused n k))
+
+    refusing : GivenReading file (readAnswer file .number) (readAnswer file .place) → Goal
+    refusing w = inr (readAnswer file .number, readAnswer file .place, inl w, given-answer file _ _ (inl w))
+
+    readable : Read file × List·Memᴰ 0 (symbolsOf file) × (readAnswer file ≡ accepted) → Goal
+    readable r =
+        ⊎-elim
+        (λ t. let w : Given file 8 (length (fields file)) = inr (r .0, refl, refl, r .1, ltb→lt mostStates (length (statesOfFile file)) t) in inr (8, length (fields file), w, given-answer file 8 (length (fields file)) w))
+        (λ t. let w : Accepted file = (r .0, r .1, nltb→le mostStates (length (statesOfFile file)) t) in inl (w, accepted-answer file w))
+        (decide (many file))
+
 given-pos : (file : List ℕ) (n k : ℕ) → Given file n k → n ≢ 0
-given-pos file n k (inl w) = let q = w .1 in omega arith
-given-pos file n k (inr (inl w)) = refusal-pos (take k (fields file)) (getD (fields file) k cut) n (w .1 .here)
-given-pos file n k (inr (inr (inl w))) = let q = w .1 in omega arith
-given-pos file n k (inr (inr (inr w))) = let q = w .1 in omega arith
+given-pos file n k (inl w) = reading-pos file n k w
+given-pos file n k (inr w) = let q = w .1 in omega arith
 
 -- Refusals are the first that fit.
 pub refused-exact : (file : List ℕ) (n k : ℕ) → n ≢ 0 → (fileAnswer file ≡ refused n k) ↔ Given file n k
 refused-exact file n k pos = (
   λ e.
       ⊎-elim
-      (λ w. absurd (pos (ap (λ (a : Answer). a .number) (sym e ∙ w .1))))
-      (λ w. subst₂ (Given file) (ap (λ (a : Answer). a .number) e) (ap (λ (a : Answer). a .place) e) w)
+      (λ w. absurd (pos (number-of (sym e ∙ w .1))))
+      (λ w. let same = sym (w .3) ∙ e in subst₂ (Given file) (number-of same) (place-of same) (w .2))
       (answer-cases file),
-  λ w. given-answer file n k w,
+  given-answer file n k,
 )
 
 pub accepted-exact : (file : List ℕ) → (fileAnswer file ≡ accepted) ↔ Accepted file
@@ -312,7 +357,7 @@ accepted-exact file = (
   λ e.
       ⊎-elim
       (λ w. w .0)
-      (λ w. absurd (given-pos file (fileAnswer file .number) (fileAnswer file .place) w (ap (λ (a : Answer). a .number) e)))
+      (λ w. absurd (given-pos file (w .0) (w .1) (w .2) (number-of (sym (w .3) ∙ e))))
       (answer-cases file),
   accepted-answer file,
 )

@@ -7,10 +7,11 @@ use mathlib.Core.List.{List}
 use native.Mathlib.Omega.{arith}
 use lib.Dec.{T, eqb, eqb→eq}
 use lib.ListN.{length, replicate}
-use Rattle.meaning.specs.Refusals.{Answer, refused, accepted}
+use Rattle.meaning.specs.Refusals.{Answer, ok, andThen, refuseIf}
 use Rattle.meaning.specs.Files.{fileAnswer, rulesOf}
 use Rattle.meaning.specs.Certificates.{encodeSheet, sheetAnswer}
-use Rattle.meaning.specs.Calls.{statesOf, interpretationOf, predicateArities, tablesOf, modelOf, roundsOf, atomsOf, ok, andThen, refuseUnless, written, holds, filled, Buffers, longEnough, Lent, lentEnough, analysisAnswer, analysed, writingAnswer, writtenIn, lentAnswer, checkAnswer, checked}
+use Rattle.meaning.specs.Calls.{statesOf, interpretationOf, predicateArities, tablesOf, modelOf, roundsOf, atomsOf, written, holds, filled, Buffers, longEnough, Lent, lentEnough, analysisAnswer, analysed, writingAnswer, writtenIn, lentAnswer, checkAnswer, checked}
+use Rattle.meaning.proofs.Answers.{then-next}
 use Rattle.meaning.proofs.Lists.{decide, clash, cond-yes, cond-no, not-intro}
 
 -- a number that is 0, as a test
@@ -23,16 +24,17 @@ not-ok a h = not-intro (ok a) (λ t. h (ok-zero a .0 t))
 then-zero : (a b : Answer) → (andThen a b .number ≡ 0) ↔ ((a .number ≡ 0) × (b .number ≡ 0))
 then-zero a b = (
   λ e. go (decide (ok a)) e,
-  λ w. ap (λ (x : Answer). x .number) (cond-yes (ok a) b a (ok-zero a .1 (w .0))) ∙ w .1,
+  λ w. ap (λ (x : Answer). x .number) (then-next a b (w .0)) ∙ w .1,
 )
   where
     go : T (ok a) ⊎ T (not (ok a)) → andThen a b .number ≡ 0 → (a .number ≡ 0) × (b .number ≡ 0)
-    go (inl t) e = (ok-zero a .0 t, sym (ap (λ (x : Answer). x .number) (cond-yes (ok a) b a t)) ∙ e)
+    go (inl t) e = let z = ok-zero a .0 t in (z, sym (ap (λ (x : Answer). x .number) (then-next a b z)) ∙ e)
     go (inr t) e =
         let z : a .number ≡ 0 = sym (ap (λ (x : Answer). x .number) (cond-no (ok a) b a t)) ∙ e in
         absurd (clash (ok a) (ok-zero a .1 z) t)
 
-unless-zero : (test : Bool) (n : ℕ) → n ≢ 0 → (refuseUnless test n .number ≡ 0) ↔ T test
+-- refused unless a test passes
+unless-zero : (test : Bool) (n : ℕ) → n ≢ 0 → (refuseIf (not test) n 0 .number ≡ 0) ↔ T test
 unless-zero true n h = (λ e. tt, λ t. refl)
 unless-zero false n h = (λ e. absurd (h e), λ t. absurd t)
 
@@ -47,7 +49,7 @@ pub analysis-zero : (file : List ℕ) (before : Buffers)
     → (analysisAnswer file before .number ≡ 0) ↔ ((fileAnswer file .number ≡ 0) × T (longEnough file before))
 unfolding analysisAnswer
 analysis-zero file before =
-    let short : Answer = refuseUnless (longEnough file before) 9 in
+    let short : Answer = refuseIf (not (longEnough file before)) 9 0 in
     let nine-or = unless-zero (longEnough file before) 9 nine in (
       λ e. let w = then-zero (fileAnswer file) short .0 e in (w .0, nine-or .0 (w .1)),
       λ w. then-zero (fileAnswer file) short .1 (w .0, nine-or .1 (w .1)),
@@ -61,8 +63,8 @@ unfolding writingAnswer
 writing-zero file before sheet =
     let room : Bool = holds sheet (encodeSheet (statesOf file) (atomsOf file)) in
     let fourteen-or = unless-zero room 14 fourteen in (
-      λ e. let w = then-zero (analysisAnswer file before) (refuseUnless room 14) .0 e in (w .0, fourteen-or .0 (w .1)),
-      λ w. then-zero (analysisAnswer file before) (refuseUnless room 14) .1 (w .0, fourteen-or .1 (w .1)),
+      λ e. let w = then-zero (analysisAnswer file before) (refuseIf (not room) 14 0) .0 e in (w .0, fourteen-or .0 (w .1)),
+      λ w. then-zero (analysisAnswer file before) (refuseIf (not room) 14 0) .1 (w .0, fourteen-or .1 (w .1)),
     )
 
 -- A sheet check does exactly if the file is accepted, the two buffers are long enough and none of 10 to 13 fits the sheet.
@@ -74,7 +76,7 @@ pub check-zero : (file sheet : List ℕ) (before : Lent)
 unfolding checkAnswer lentAnswer
 check-zero file sheet before =
     let own : Answer = sheetAnswer (statesOf file) (interpretationOf file) (predicateArities file) (rulesOf file .clauses) sheet in
-    let short : Answer = refuseUnless (lentEnough file before) 9 in
+    let short : Answer = refuseIf (not (lentEnough file before)) 9 0 in
     let nine-or = unless-zero (lentEnough file before) 9 nine in (
       λ e.
           let w = then-zero (lentAnswer file before) own .0 e in

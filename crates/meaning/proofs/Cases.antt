@@ -13,7 +13,7 @@ use Rattle.meaning.specs.Contents.{termWithin, readTerms, readAtom, read
 use Rattle.meaning.specs.Refusals.{Answer, refusal, firstRefused}
 use Rattle.meaning.specs.Types.{signature, step, bit}
 use Rattle.meaning.specs.States.{determinise, cellOf, tables}
-use Rattle.meaning.specs.Files.{rulesIn, rulesOf, statesFor, lateAnswer, fieldsAnswer, fileAnswer}
+use Rattle.meaning.specs.Files.{rulesIn, rulesOf, statesFor, readAnswer, fileAnswer}
 use Rattle.meaning.specs.Clauses.{brings, next, stage, rounds, model, isOpen}
 use Rattle.meaning.specs.Certificates.{encodeSheet, violated, checkFields, sheetAnswer, markedAtoms}
 use Rattle.meaning.specs.Calls.{symbolArities, predicateArities, statesOf, stepOf, interpretationOf, tablesOf, roundsOf, modelOf, atomsOf, verdictOf, verdictsOf}
@@ -190,5 +190,5 @@ holds : Row → Bool
 holds r = same (ask (r .asked) (r .file)) (r .says)
 
 cases : T (all holds rows)
-unfolding rows holds ask E twoStates sheetE sheetG X Y z s p q p₂ clause query name to evenOdd wordsE I J constantOnly noType noSuchSet twoPlaces headOnly encodeRules fields firstField termWithin readTerms readAtom readAtoms readClause readConditions readQuery refusal firstRefused signature step determinise cellOf tables rulesIn rulesOf statesFor lateAnswer fieldsAnswer fileAnswer brings next stage rounds model isOpen encodeSheet violated checkFields sheetAnswer markedAtoms symbolArities predicateArities statesOf stepOf interpretationOf tablesOf roundsOf modelOf atomsOf verdictOf verdictsOf
+unfolding rows holds ask E twoStates sheetE sheetG X Y z s p q p₂ clause query name to evenOdd wordsE I J constantOnly noType noSuchSet twoPlaces headOnly encodeRules fields firstField termWithin readTerms readAtom readAtoms readClause readConditions readQuery refusal firstRefused signature step determinise cellOf tables rulesIn rulesOf statesFor readAnswer fileAnswer brings next stage rounds model isOpen encodeSheet violated checkFields sheetAnswer markedAtoms symbolArities predicateArities statesOf stepOf interpretationOf tablesOf roundsOf modelOf atomsOf verdictOf verdictsOf
 cases = tt

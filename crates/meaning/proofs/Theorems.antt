@@ -323,7 +323,7 @@ eight-is-exact file k =
     let exact = refused-exact file 8 k (λ (e : _≡_ {A = ℕ} 8 0). omega arith) in
     let more = States.more-states (symbolsOf file) (length (rulesOf file .types)) (rulesOf file .productions) in (
       λ e. go (exact .0 e),
-      λ w. exact .1 (inr (inr (inr (w .0, refl, w .1, w .2, more .1 (w .3))))),
+      λ w. exact .1 (inr (w .0, refl, w .1, w .2, more .1 (w .3))),
     )
   where
     go : Given file 8 k
@@ -331,7 +331,7 @@ eight-is-exact file k =
         × (k ≡ length (fields file))
         × List·Memᴰ 0 (symbolsOf file)
         × States.Differing (symbolsOf file) (length (rulesOf file .types)) (rulesOf file .productions) (suc mostStates)
-    go (inl w) = let q : _≡_ {A = ℕ} 8 1 = w .1 in absurd (omega arith)
-    go (inr (inl w)) = absurd (lt-irrefl 8 (le-step (refusal-range (take k (fields file)) (getD (fields file) k cut) 8 (w .1 .here) .1)))
-    go (inr (inr (inl w))) = let q : _≡_ {A = ℕ} 8 7 = w .1 in absurd (omega arith)
-    go (inr (inr (inr w))) = (w .0, w .2, w .3, States.more-states (symbolsOf file) (length (rulesOf file .types)) (rulesOf file .productions) .0 (w .4))
+    go (inl (inl w)) = let q : _≡_ {A = ℕ} 8 1 = w .1 in absurd (omega arith)
+    go (inl (inr (inl w))) = absurd (lt-irrefl 8 (le-step (refusal-range (take k (fields file)) (getD (fields file) k cut) 8 (w .1 .here) .1)))
+    go (inl (inr (inr w))) = let q : _≡_ {A = ℕ} 8 7 = w .1 in absurd (omega arith)
+    go (inr w) = (w .0, w .2, w .3, States.more-states (symbolsOf file) (length (rulesOf file .types)) (rulesOf file .productions) .0 (w .4))

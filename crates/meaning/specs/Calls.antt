@@ -1,15 +1,15 @@
 -- The three public calls (01, "What is handed back"): number, place, counts and every byte of every lent buffer afterwards, as a function
 -- of the file, the sheet and the buffers before. Of a written sheet the order of the atoms is left free, and named as such.
 use Prim.Native.Nat.{ℕ, zero}
-use mathlib.Core.Bool.{Bool, cond, _&&_}
+use mathlib.Core.Bool.{Bool, cond, not, _&&_}
 use mathlib.Core.List.{List, _++_, map}
-use lib.Dec.{eqb, leb}
+use lib.Dec.{leb}
 use lib.ListN.{length, drop, replicate}
 use Rattle.meaning.specs.Syntax.{Query}
 use Rattle.meaning.specs.Legal.{arities}
 use Rattle.meaning.specs.Types.{step, bit}
 use Rattle.meaning.specs.States.{cellOf, tables}
-use Rattle.meaning.specs.Refusals.{Answer, refused, accepted}
+use Rattle.meaning.specs.Refusals.{Answer, ok, andThen, refuseIf}
 use Rattle.meaning.specs.Files.{rulesOf, statesFor, fileAnswer}
 use Rattle.meaning.specs.Clauses.{marked, rounds, model, isOpen}
 use Rattle.meaning.specs.Certificates.{encodeSheet, sheetAnswer, markedAtoms, IsOrder}
@@ -51,17 +51,6 @@ module _ (file : List ℕ) where
   unfoldable pub verdictsOf : List ℕ
   verdictsOf = map verdictOf (rulesOf file .queries)
 
--- no refusal
-abbrev pub ok : Answer → Bool
-ok a = eqb (a .number) 0
-
--- the first answer that is a refusal
-abbrev pub andThen : Answer → Answer → Answer
-andThen a b = cond (ok a) b a
-
-abbrev pub refuseUnless : Bool → ℕ → Answer
-refuseUnless test number = cond test accepted (refused number 0)
-
 -- every count is 0 with a refusal
 abbrev pub counted : Answer → ℕ → ℕ
 counted a n = cond (ok a) n 0
@@ -98,7 +87,7 @@ longEnough file before =
 
 -- 1 to 8, then 9: a buffer is shorter than needed
 unfoldable pub analysisAnswer : List ℕ → Buffers → Answer
-analysisAnswer file before = andThen (fileAnswer file) (refuseUnless (longEnough file before) 9)
+analysisAnswer file before = andThen (fileAnswer file) (refuseIf (not (longEnough file before)) 9 0)
 
 pub record Analysed : Type 0 where
   pub answer : Answer
@@ -120,7 +109,7 @@ analysed file before =
 -- the answer to writing a sheet: as to an analysis, then 14: the sheet's buffer is too short
 unfoldable pub writingAnswer : List ℕ → Buffers → List ℕ → Answer
 writingAnswer file before sheet =
-    andThen (analysisAnswer file before) (refuseUnless (holds sheet (encodeSheet (statesOf file) (atomsOf file))) 14)
+    andThen (analysisAnswer file before) (refuseIf (not (holds sheet (encodeSheet (statesOf file) (atomsOf file)))) 14 0)
 
 pub record Written : Type 0 where
   pub answer : Answer
@@ -158,7 +147,7 @@ lentEnough file before = holds (before .tables) (tablesOf file) && holds (before
 
 -- 1 to 8, then 9
 unfoldable pub lentAnswer : List ℕ → Lent → Answer
-lentAnswer file before = andThen (fileAnswer file) (refuseUnless (lentEnough file before) 9)
+lentAnswer file before = andThen (fileAnswer file) (refuseIf (not (lentEnough file before)) 9 0)
 
 -- then 10 to 13
 unfoldable pub checkAnswer : List ℕ → List ℕ → Lent → Answer

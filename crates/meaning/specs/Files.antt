@@ -1,6 +1,5 @@
--- What a rule file says, and the number with which it is refused (01, "What is handed back"): 1, the first field refused by 2 to 6, 7, 8.
+-- What a rule file says, and the answer to it (01, "What is handed back"): 1, the first field refused by 2 to 6, 7, 8.
 use Prim.Native.Nat.{ℕ}
-use mathlib.Core.Bool.{cond}
 use mathlib.Core.List.{List, [], _∷_, _++_, map}
 use mathlib.Core.Option.{Option, none, some}
 use lib.Dec.{ltb}
@@ -9,7 +8,7 @@ use Rattle.meaning.specs.Syntax.{Named, Production, Rules}
 use Rattle.meaning.specs.Limits.{symbol, type, production, predicate, clause, query, mostFileBytes, mostStates}
 use Rattle.meaning.specs.Fields.{Field, cut, fields}
 use Rattle.meaning.specs.Contents.{readClause, readQuery}
-use Rattle.meaning.specs.Refusals.{Answer, refused, accepted, contents, firstByte, aritiesIn, typesIn, refusal, firstRefused, noConstant}
+use Rattle.meaning.specs.Refusals.{Answer, refused, andThen, refuseIf, contents, firstByte, aritiesIn, typesIn, refusal, firstRefused, noConstant}
 use Rattle.meaning.specs.Legal.{arities}
 use Rattle.meaning.specs.Types.{step, signature}
 use Rattle.meaning.specs.States.{determinise}
@@ -44,20 +43,21 @@ rulesOf file = rulesIn (fields file)
 unfoldable pub statesFor : List ℕ → ℕ → List Production → List ℕ
 statesFor symbols types productions = determinise (step productions types) (signature symbols)
 
--- 7 and 8: no symbol of arity 0; more than 16 states exist
-unfoldable pub lateAnswer : List ℕ → ℕ → List Production → ℕ → Answer
-lateAnswer symbols types productions count =
-    cond (noConstant symbols) (refused 7 count)
-    (cond (ltb mostStates (length (statesFor symbols types productions))) (refused 8 count) accepted)
-
+-- 2 to 6 at the first field that is refused, else 7: no symbol of arity 0
 abbrev pub answerAt : List Field → Option ℕ → Answer
-answerAt fs none =
-    lateAnswer (arities (rulesIn fs .symbols)) (length (rulesIn fs .types)) (rulesIn fs .productions) (length fs)
+answerAt fs none = refuseIf (noConstant (arities (rulesIn fs .symbols))) 7 (length fs)
 answerAt fs (some k) = refused (refusal (take k fs) (getD fs k cut)) k
 
-unfoldable pub fieldsAnswer : List Field → Answer
-fieldsAnswer fs = answerAt fs (firstRefused fs)
+-- 1 to 7: what reading the file answers
+unfoldable pub readAnswer : List ℕ → Answer
+readAnswer file = andThen (refuseIf (ltb mostFileBytes (length file)) 1 0) (answerAt (fields file) (firstRefused (fields file)))
 
--- the file is accepted, or refused with this number at this place
+-- then 8: more than 16 states exist; the file is accepted, or refused with this number at this place
 unfoldable pub fileAnswer : List ℕ → Answer
-fileAnswer file = cond (ltb mostFileBytes (length file)) (refused 1 0) (fieldsAnswer (fields file))
+fileAnswer file =
+    andThen
+    (readAnswer file)
+    (refuseIf
+    (ltb mostStates (length (statesFor (arities (rulesOf file .symbols)) (length (rulesOf file .types)) (rulesOf file .productions))))
+    8
+    (length (fields file)))

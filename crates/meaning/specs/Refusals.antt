@@ -22,6 +22,17 @@ refused number place = record { number = number; place = place }
 abbrev pub accepted : Answer
 accepted = refused 0 0
 
+-- no refusal
+abbrev pub ok : Answer → Bool
+ok a = eqb (a .number) 0
+
+-- the first of two answers that is a refusal
+abbrev pub andThen : Answer → Answer → Answer
+andThen a b = cond (ok a) b a
+
+abbrev pub refuseIf : Bool → ℕ → ℕ → Answer
+refuseIf test number place = cond test (refused number place) accepted
+
 -- the kind of a tag
 abbrev pub kindOf : ℕ → Option Kind
 kindOf tag =
