@@ -1,0 +1,51 @@
+// The fields of rule files and sheets: a tag, a length of two bytes, high byte first, and that many content bytes.
+ghost use mathlib.Core.Path.{_≡_};
+ghost use Prim.Native.Nat.{_+_, _≤_};
+ghost use lib.ListN.{length, take, drop};
+ghost use Rattle.meaning.specs.Fields.{frontOf};
+ghost use Rattle.fields.specs.Found.{foundIn};
+
+// What stands at a position.
+pub enum Found {
+    // No byte is left.
+    End,
+    // Under 3 bytes are left, or the length passes the end.
+    Cut,
+    // A field: its tag, and how long its content is, which starts 3 bytes on.
+    Whole(u8, usize),
+}
+
+fn wide(b: u8) -> usize
+    ensures { λ r. ⌜ r ≡ b ⌝ }
+{
+    b as usize
+}
+
+// The field that starts at a position.
+pub fn field_at(s: &[u8], at: usize) -> Found
+    ensures { λ r. ⌜ r ≡ foundIn (frontOf (drop at (now (s .entry)))) ⌝ }
+{
+    if s.len() <= at {
+        return Found::End;
+    }
+    let left = s.len() - at;
+    if left < 3 {
+        return Found::Cut;
+    }
+    let len = wide(s[at + 1]) * 256 + wide(s[at + 2]);
+    if len <= left - 3 {
+        Found::Whole(s[at], len)
+    } else {
+        Found::Cut
+    }
+}
+
+// The content of a field at a position, as that very part of the slice.
+pub fn content(s: &[u8], at: usize, len: usize) -> &[u8]
+    requires { ⌜ at + 3 + len ≤ length (now s) ⌝ }
+    ensures { λ r. ⌜ (now r ≡ take len (drop (at + 3) (now (s .entry)))) × (r .ptr .0 ≡ s .entry .ptr .0) × (r .ptr .1 ≡ at + 3 + s .entry .ptr .1) ⌝ }
+{
+    let from = at + 3;
+    let to = from + len;
+    &s[from..to]
+}
