@@ -16,7 +16,7 @@ use Rattle.meaning.specs.Fields.{Bytes, Field, whole, cut, fields, conte
 use Rattle.meaning.specs.Contents.{isSome, isName, isNamed, isProduction, readClause, readQuery}
 use Rattle.meaning.specs.Encoding.{encodeNamed, encodeProduction, encodeClause, encodeQuery, contentsFor, encodeKind, kinds, encodeRules}
 use Rattle.meaning.specs.Legal.{arities, names, WellProduction, WellClause, WellQuery, NoneTwice, Legal}
-use Rattle.meaning.specs.Refusals.{isRefused, accepted, contents, firstByte, aritiesIn, typesIn, laidOut, isCut, firstRefused}
+use Rattle.meaning.specs.Refusals.{isRefused, accepted, contents, firstByte, aritiesIn, typesIn, laidOutAfter, isCut, firstRefused}
 use Rattle.meaning.specs.Files.{readAll, named, productionOf, rulesIn, rulesOf, statesFor, fileAnswer}
 use Rattle.meaning.proofs.Lists.{joined-append, All-map}
 use Rattle.meaning.proofs.Contents.{isSome-give, cons-same, conditionTypes, isNamed-exact, isProduction-exact, readClause-back, readClause-exact, readQuery-back, readQuery-exact}
@@ -254,7 +254,7 @@ module _ (r : Rules) (h : Legal r) where
       (h .queries)
 
   -- each content is as laid out, and no name stands twice
-  laid-for : (k : Kind) → All (λ (c : List ℕ). T (laidOut (fieldsFor r) k c)) (contentsFor k r)
+  laid-for : (k : Kind) → All (λ (c : List ℕ). T (laidOutAfter (fieldsFor r) k c)) (contentsFor k r)
   laid-for symbol = All-over _ encodeNamed (r .symbols) (All-map (r .symbols) (λ s w. isNamed-exact mostSymbolArity (encodeNamed s) .1 (refl, w .0, w .1)) (h .symbols))
   laid-for type = h .types
   laid-for production =
@@ -280,7 +280,7 @@ module _ (r : Rules) (h : Legal r) where
         rising = rising-for r;
         counts = λ k. subst (λ (cs : List (List ℕ)). length cs ≤ mostOf k) (sym (contents-for r k)) (h .counts k);
         sizes = λ k. subst (All (λ (c : List ℕ). length c ≤ mostContent)) (sym (contents-for r k)) (h .sizes k);
-        laid = λ k. subst (All (λ (c : List ℕ). T (laidOut (fieldsFor r) k c))) (sym (contents-for r k)) (laid-for k);
+        laid = λ k. subst (All (λ (c : List ℕ). T (laidOutAfter (fieldsFor r) k c))) (sym (contents-for r k)) (laid-for k);
         names = λ k. subst (λ (cs : List (List ℕ)). NoneTwice (namesFrom k cs)) (sym (contents-for r k)) (names-for k);
       }
 

@@ -17,7 +17,7 @@ use Rattle.meaning.specs.Lists.{any, All, same}
 use Rattle.meaning.specs.Limits.{Kind, symbol, type, production, predicate, clause, query, tagOf, mostOf, mostContent}
 use Rattle.meaning.specs.Fields.{Field, whole, cut, contentsOf}
 use Rattle.meaning.specs.Contents.{isSome, isProduction, readClause, readQuery}
-use Rattle.meaning.specs.Refusals.{isRefused, kindOf, testKind, contents, firstByte, namesIn, laidOut, lastTag}
+use Rattle.meaning.specs.Refusals.{isRefused, kindOf, testKind, contents, firstByte, namesIn, laidOutAfter, lastTag}
 use Rattle.meaning.specs.Legal.{NoneTwice}
 use Rattle.meaning.proofs.Lists.{decide, clash, not-not, not-not-intro, not-intro, any-find, any-give, any-append, All-append, All-split, mem-getD, mem-place, same-eq, eq-same, cond-yes, cond-no}
 use Rattle.meaning.proofs.Contents.{Post, post-at, post-cond, isSome-find, isSome-give, cons-same}
@@ -232,7 +232,7 @@ pub record FineKind (before : List Field) (k : Kind) (c : List ℕ) : Type 0 whe
   pub order : lastTag before ≤ tagOf k
   pub count : length (contents k before) < mostOf k
   pub size : length c ≤ mostContent
-  pub laid : T (laidOut before k c)
+  pub laid : T (laidOutAfter before k c)
   pub fresh : Fresh (namesFrom k (contents k before)) (namesFrom k (c ∷ []))
 
 -- what a test of the kind says where the kind is known
@@ -254,12 +254,12 @@ fine-kind before k c = (there, back)
   where
     there : Fine before (whole (tagOf k) c) → FineKind before k c
     there h =
-        let m = neither (ltb mostContent (length c)) (not (laidOut before k c)) (not-kind k _ .0 (h .3)) in
+        let m = neither (ltb mostContent (length c)) (not (laidOutAfter before k c)) (not-kind k _ .0 (h .3)) in
         record {
           order = nltb→le (tagOf k) (lastTag before) (neither (not (isSome (kindOf (tagOf k)))) (ltb (tagOf k) (lastTag before)) (h .1) .1);
           count = nleb→lt (mostOf k) (length (contents k before)) (not-kind k _ .0 (h .2));
           size = nltb→le mostContent (length c) (m .0);
-          laid = not-not (laidOut before k c) (m .1);
+          laid = not-not (laidOutAfter before k c) (m .1);
           fresh = subst (λ (b : Bool). T (not b)) (taken before k c) (not-kind k _ .0 (h .4));
         }
 
@@ -270,7 +270,7 @@ fine-kind before k c = (there, back)
           (not-not-intro (isSome (kindOf (tagOf k))) (isSome-give (kindOf (tagOf k)) k (tag-kind k)))
           (le→nltb (tagOf k) (lastTag before) (h .order)),
       not-kind k _ .1 (lt→nleb (mostOf k) (length (contents k before)) (h .count)),
-      not-kind k _ .1 (neither-of (ltb mostContent (length c)) (not (laidOut before k c)) (le→nltb mostContent (length c) (h .size)) (not-not-intro (laidOut before k c) (h .laid))),
+      not-kind k _ .1 (neither-of (ltb mostContent (length c)) (not (laidOutAfter before k c)) (le→nltb mostContent (length c) (h .size)) (not-not-intro (laidOutAfter before k c) (h .laid))),
       not-kind k _ .1 (subst (λ (b : Bool). T (not b)) (sym (taken before k c)) (h .fresh)),
     )
 
@@ -298,11 +298,11 @@ pub record WellFields (fs : List Field) : Type 0 where
   pub rising : Rising 1 7 fs
   pub counts : (k : Kind) → length (contents k fs) ≤ mostOf k
   pub sizes : (k : Kind) → All (λ (c : List ℕ). length c ≤ mostContent) (contents k fs)
-  pub laid : (k : Kind) → All (λ (c : List ℕ). T (laidOut fs k c)) (contents k fs)
+  pub laid : (k : Kind) → All (λ (c : List ℕ). T (laidOutAfter fs k c)) (contents k fs)
   pub names : (k : Kind) → NoneTwice (namesFrom k (contents k fs))
 
 -- the layout of a kind goes by the kinds before it
-laid-same : (fs gs : List Field) (k : Kind) (c : List ℕ) → ((j : Kind) → tagOf j < tagOf k → contents j fs ≡ contents j gs) → laidOut fs k c ≡ laidOut gs k c
+laid-same : (fs gs : List Field) (k : Kind) (c : List ℕ) → ((j : Kind) → tagOf j < tagOf k → contents j fs ≡ contents j gs) → laidOutAfter fs k c ≡ laidOutAfter gs k c
 laid-same fs gs symbol c h = refl
 laid-same fs gs type c h = refl
 laid-same fs gs production c h = λ i. isProduction (length (h type (lit< tt) i)) (map firstByte (h symbol (lit< tt) i)) c
@@ -334,7 +334,7 @@ fine-at before after k c h =
       order = le-trans (d .2) (d .3 .0);
       count = omega (arith, h .counts k, ap length at ∙ length-append (contents k before) (c ∷ contents k after));
       size = All-split (λ (x : List ℕ). length x ≤ mostContent) (contents k before) (c ∷ contents k after) (subst (All (λ (x : List ℕ). length x ≤ mostContent)) at (h .sizes k)) .1 .0;
-      laid = subst T (laid-same fs before k c (λ j lt. contents-before before after k j c (h .rising) lt)) (All-split (λ (x : List ℕ). T (laidOut fs k x)) (contents k before) (c ∷ contents k after) (subst (All (λ (x : List ℕ). T (laidOut fs k x))) at (h .laid k)) .1 .0);
+      laid = subst T (laid-same fs before k c (λ j lt. contents-before before after k j c (h .rising) lt)) (All-split (λ (x : List ℕ). T (laidOutAfter fs k x)) (contents k before) (c ∷ contents k after) (subst (All (λ (x : List ℕ). T (laidOutAfter fs k x))) at (h .laid k)) .1 .0);
       fresh =
           fresh-front (namesFrom k (contents k before)) (namesFrom k (c ∷ [])) (namesFrom k (contents k after))
           (none-twice-fresh (namesFrom k (contents k before)) (namesFrom k (c ∷ []) ++ namesFrom k (contents k after))
@@ -397,14 +397,14 @@ fine-well fs h =
       rising = rising;
       counts = λ k. fine-collect fs k (λ cs. length cs ≤ mostOf k) (λ before after c e w q. omega (arith, length-append (contents k before) (c ∷ []), w .count)) [] fs refl h zero-le;
       sizes = λ k. fine-collect fs k (All (λ (c : List ℕ). length c ≤ mostContent)) (λ before after c e w q. All-append _ (contents k before) (c ∷ []) q (w .size, tt)) [] fs refl h tt;
-      laid = λ k. fine-collect fs k (All (λ (c : List ℕ). T (laidOut fs k c))) (λ before after c e w q. All-append _ (contents k before) (c ∷ []) q (laid-after k before after c e (w .laid), tt)) [] fs refl h tt;
+      laid = λ k. fine-collect fs k (All (λ (c : List ℕ). T (laidOutAfter fs k c))) (λ before after c e w q. All-append _ (contents k before) (c ∷ []) q (laid-after k before after c e (w .laid), tt)) [] fs refl h tt;
       names = λ k. fine-collect fs k (λ cs. NoneTwice (namesFrom k cs)) (λ before after c e w q. one-more k (contents k before) c q (w .fresh)) [] fs refl h (none-twice-one (namesFrom k []) (le-trans (names-few k []) zero-le));
     }
   where
     rising : Rising 1 7 fs
     rising = fine-rising 1 [] fs (λ g one _. one) h
 
-    laid-after : (k : Kind) (before after : List Field) (c : List ℕ) → fs ≡ before ++ whole (tagOf k) c ∷ after → T (laidOut before k c) → T (laidOut fs k c)
+    laid-after : (k : Kind) (before after : List Field) (c : List ℕ) → fs ≡ before ++ whole (tagOf k) c ∷ after → T (laidOutAfter before k c) → T (laidOutAfter fs k c)
     laid-after k before after c e t =
         subst T (sym (laid-same fs before k c (λ j lt. ap (contents j) e ∙ contents-before before after k j c (subst (Rising 1 7) e rising) lt))) t
 

@@ -65,14 +65,17 @@ namesIn predicate fs = map (drop 1) (contents predicate fs)
 namesIn clause fs = []
 namesIn query fs = []
 
--- the content is as laid out, its length aside
-abbrev pub laidOut : List Field → Kind → List ℕ → Bool
-laidOut before symbol content = isNamed mostSymbolArity content
-laidOut before type content = isName content
-laidOut before production content = isProduction (typesIn before) (aritiesIn symbol before) content
-laidOut before predicate content = isNamed mostPredicateArity content
-laidOut before clause content = isSome (readClause (aritiesIn symbol before) (aritiesIn predicate before) content)
-laidOut before query content = isSome (readQuery (typesIn before) (aritiesIn symbol before) (aritiesIn predicate before) content)
+-- the content is as laid out, its length aside, for so many declared types and for these arities of symbols and predicates
+abbrev pub laidOut : ℕ → List ℕ → List ℕ → Kind → List ℕ → Bool
+laidOut types arities preds symbol content = isNamed mostSymbolArity content
+laidOut types arities preds type content = isName content
+laidOut types arities preds production content = isProduction types arities content
+laidOut types arities preds predicate content = isNamed mostPredicateArity content
+laidOut types arities preds clause content = isSome (readClause arities preds content)
+laidOut types arities preds query content = isSome (readQuery types arities preds content)
+
+abbrev pub laidOutAfter : List Field → Kind → List ℕ → Bool
+laidOutAfter before k content = laidOut (typesIn before) (aritiesIn symbol before) (aritiesIn predicate before) k content
 
 -- the tag of the last field, 0 if there is none
 abbrev pub lastTag : List Field → ℕ
@@ -100,7 +103,7 @@ tooMany before (whole tag content) = testKind (kindOf tag) (λ k. leb (mostOf k)
 abbrev pub malformed : List Field → Field → Bool
 malformed before cut = false
 malformed before (whole tag content) =
-    testKind (kindOf tag) (λ k. ltb mostContent (length content) || not (laidOut before k content))
+    testKind (kindOf tag) (λ k. ltb mostContent (length content) || not (laidOutAfter before k content))
 
 -- 5: name already used in its kind
 abbrev pub nameTaken : List Field → Field → Bool
