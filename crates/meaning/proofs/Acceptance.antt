@@ -3,7 +3,7 @@ use Prim.Native.Nat.{ℕ, _≤_, _<_}
 use mathlib.Core.Path.{_≡_, refl, sym, ap, ap₂, subst, subst₂, subst₃, _∙_, fun-ext}
 use mathlib.Core.Logic.{_↔_}
 use mathlib.Core.Bool.{Bool, true, false, cond, not}
-use mathlib.Core.List.{List, [], _∷_, _++_, map, append-nil, List·Memᴰ}
+use mathlib.Core.List.{List, [], _∷_, _++_, map, map-append, append-nil, List·Memᴰ}
 use mathlib.Core.Option.{Option, none, some}
 use native.Mathlib.Nat.{le-trans, le-of-eq}
 use native.Mathlib.Omega.{arith}
@@ -16,12 +16,12 @@ use Rattle.meaning.specs.Fields.{Bytes, Field, whole, cut, fields, conte
 use Rattle.meaning.specs.Contents.{isSome, isName, isNamed, isProduction, readClause, readQuery}
 use Rattle.meaning.specs.Encoding.{encodeNamed, encodeProduction, encodeClause, encodeQuery, contentsFor, encodeKind, kinds, encodeRules}
 use Rattle.meaning.specs.Legal.{arities, names, WellProduction, WellClause, WellQuery, NoneTwice, Legal}
-use Rattle.meaning.specs.Refusals.{isRefused, accepted, contents, firstByte, aritiesIn, typesIn, laidOutAfter, isCut, firstRefused}
+use Rattle.meaning.specs.Refusals.{namesIn, isRefused, accepted, contents, firstByte, aritiesIn, typesIn, laidOutAfter, isCut, firstRefused}
 use Rattle.meaning.specs.Files.{readAll, named, productionOf, rulesIn, rulesOf, statesFor, fileAnswer}
 use Rattle.meaning.proofs.Lists.{joined-append, All-map}
 use Rattle.meaning.proofs.Contents.{isSome-give, cons-same, conditionTypes, isNamed-exact, isProduction-exact, readClause-back, readClause-exact, readQuery-back, readQuery-exact}
 use Rattle.meaning.proofs.Fields.{NoField, firstField-none, fields-nil, fields-joined, fields-whole, encodeWhole, contentsOf-append}
-use Rattle.meaning.proofs.ByKind.{map-append, tag-range, Rising, rising-weaken, rising-map, rising-byTag, namesFrom, none-twice-one, WellFields, well-fine, fine-well}
+use Rattle.meaning.proofs.ByKind.{tag-range, Rising, rising-weaken, rising-map, rising-byTag, none-twice-one, WellFields, well-fine, fine-well}
 use Rattle.meaning.proofs.Answers.{Fine, none-refused, accepted-exact}
 
 -- The fields of rules
@@ -139,7 +139,7 @@ map-map g f [] = refl
 map-map g f (x ∷ xs) = cons-same refl (map-map g f xs)
 
 -- arities and names, by contents
-arities-named : (cs : List (List ℕ)) → arities (map named cs) ≡ map firstByte cs
+pub arities-named : (cs : List (List ℕ)) → arities (map named cs) ≡ map firstByte cs
 arities-named cs = map-map (λ (d : Named). d .arity) named cs
 
 names-named : (cs : List (List ℕ)) → names (map named cs) ≡ map (drop 1) cs
@@ -266,7 +266,7 @@ module _ (r : Rules) (h : Legal r) where
   laid-for clause = All-over _ encodeClause (r .clauses) (All-map (r .clauses) (λ c e. isSome-give _ c e) clauses-back)
   laid-for query = All-over _ encodeQuery (r .queries) (All-map (r .queries) (λ q e. isSome-give _ q e) queries-back)
 
-  names-for : (k : Kind) → NoneTwice (namesFrom k (contentsFor k r))
+  names-for : (k : Kind) → NoneTwice (namesIn k (contentsFor k r))
   names-for symbol = subst NoneTwice (sym (map-map (drop 1) encodeNamed (r .symbols))) (h .symbolNames)
   names-for type = h .typeNames
   names-for production = none-twice-one [] (lit≤ tt)
@@ -281,7 +281,7 @@ module _ (r : Rules) (h : Legal r) where
         counts = λ k. subst (λ (cs : List (List ℕ)). length cs ≤ mostOf k) (sym (contents-for r k)) (h .counts k);
         sizes = λ k. subst (All (λ (c : List ℕ). length c ≤ mostContent)) (sym (contents-for r k)) (h .sizes k);
         laid = λ k. subst (All (λ (c : List ℕ). T (laidOutAfter (fieldsFor r) k c))) (sym (contents-for r k)) (laid-for k);
-        names = λ k. subst (λ (cs : List (List ℕ)). NoneTwice (namesFrom k cs)) (sym (contents-for r k)) (names-for k);
+        names = λ k. subst (λ (cs : List (List ℕ)). NoneTwice (namesIn k cs)) (sym (contents-for r k)) (names-for k);
       }
 
   pub legal-rules : rulesIn (fieldsFor r) ≡ r

@@ -4,7 +4,7 @@ use Prim.Native.Nat.{ℕ, zero, suc, _+_, _-_, _≤_, _<_, zero-le}
 use mathlib.Core.Path.{_≡_, refl, sym, ap, ap₂, subst, _∙_}
 use mathlib.Core.Logic.{_⊎_, inl, inr, ⊎-elim, _↔_, _≢_}
 use mathlib.Core.Bool.{Bool, true, false, not, _||_}
-use mathlib.Core.List.{List, [], _∷_, _++_, map, append-nil}
+use mathlib.Core.List.{List, [], _∷_, _++_, map, map-append, append-nil}
 use mathlib.Core.Option.{Option, some}
 use native.Mathlib.Nat.{le-refl, le-of-eq, le-trans, not-suc-le-zero, eq-or-lt-of-le, lt-irrefl}
 use native.Mathlib.Decide.{decLt}
@@ -20,7 +20,7 @@ use Rattle.meaning.specs.Contents.{isSome, isProduction, readClause, rea
 use Rattle.meaning.specs.Refusals.{isRefused, kindOf, testKind, contents, firstByte, namesIn, laidOutAfter, lastTag}
 use Rattle.meaning.specs.Legal.{NoneTwice}
 use Rattle.meaning.proofs.Lists.{decide, clash, not-not, not-not-intro, not-intro, any-find, any-give, any-append, All-append, All-split, mem-getD, mem-place, same-eq, eq-same, cond-yes, cond-no}
-use Rattle.meaning.proofs.Contents.{Post, post-at, post-cond, isSome-find, isSome-give, cons-same}
+use Rattle.meaning.proofs.Contents.{Post, post-at, post-cond, isSome-find, isSome-give}
 use Rattle.meaning.proofs.Answers.{Fine, not-refused}
 use Rattle.meaning.proofs.Fields.{NoField, contentsOf-append}
 
@@ -186,28 +186,8 @@ fresh-front xs ys zs t =
 pub none-twice-one : (xs : List (List ℕ)) → length xs ≤ 1 → NoneTwice xs
 none-twice-one xs le i j lt lj e = not-suc-le-zero {n = 0} (omega arith)
 
--- the names in some contents of a kind
-abbrev pub namesFrom : Kind → List (List ℕ) → List (List ℕ)
-namesFrom symbol cs = map (drop 1) cs
-namesFrom type cs = cs
-namesFrom production cs = []
-namesFrom predicate cs = map (drop 1) cs
-namesFrom clause cs = []
-namesFrom query cs = []
-
-names-from : (k : Kind) (fs : List Field) → namesIn k fs ≡ namesFrom k (contents k fs)
-names-from symbol fs = refl
-names-from type fs = refl
-names-from production fs = refl
-names-from predicate fs = refl
-names-from clause fs = refl
-names-from query fs = refl
-
-pub map-append : {A B : Type 0} (f : A → B) (xs ys : List A) → map f (xs ++ ys) ≡ map f xs ++ map f ys
-map-append f [] ys = refl
-map-append f (x ∷ xs) ys = cons-same refl (map-append f xs ys)
-
-names-append : (k : Kind) (xs ys : List (List ℕ)) → namesFrom k (xs ++ ys) ≡ namesFrom k xs ++ namesFrom k ys
+-- the names of contents one after the other
+names-append : (k : Kind) (xs ys : List (List ℕ)) → namesIn k (xs ++ ys) ≡ namesIn k xs ++ namesIn k ys
 names-append symbol xs ys = map-append (drop 1) xs ys
 names-append type xs ys = refl
 names-append production xs ys = refl
@@ -216,7 +196,7 @@ names-append clause xs ys = refl
 names-append query xs ys = refl
 
 -- a content has one name at most
-names-few : (k : Kind) (cs : List (List ℕ)) → length (namesFrom k cs) ≤ length cs
+names-few : (k : Kind) (cs : List (List ℕ)) → length (namesIn k cs) ≤ length cs
 names-few symbol cs = le-of-eq (length-map cs (drop 1))
 names-few type cs = le-refl (length cs)
 names-few production cs = zero-le
@@ -233,7 +213,7 @@ pub record FineKind (before : List Field) (k : Kind) (c : List ℕ) : Type 0 whe
   pub count : length (contents k before) < mostOf k
   pub size : length c ≤ mostContent
   pub laid : T (laidOutAfter before k c)
-  pub fresh : Fresh (namesFrom k (contents k before)) (namesFrom k (c ∷ []))
+  pub fresh : Fresh (namesIn k (contents k before)) (namesIn k (c ∷ []))
 
 -- what a test of the kind says where the kind is known
 not-kind : (k : Kind) (test : Kind → Bool) → T (not (testKind (kindOf (tagOf k)) test)) ↔ T (not (test k))
@@ -241,13 +221,6 @@ not-kind k test = (
   subst (λ (o : Option Kind). T (not (testKind o test))) (tag-kind k),
   subst (λ (o : Option Kind). T (not (testKind o test))) (sym (tag-kind k)),
 )
-
-taken : (before : List Field) (k : Kind) (c : List ℕ)
-    → any (λ name. any (same name) (namesIn k before)) (namesIn k (whole (tagOf k) c ∷ [])) ≡ any (λ name. any (same name) (namesFrom k (contents k before))) (namesFrom k (c ∷ []))
-taken before k c =
-    ap₂ (λ (xs ys : List (List ℕ)). any (λ name. any (same name) xs) ys)
-    (names-from k before)
-    (names-from k (whole (tagOf k) c ∷ []) ∙ ap (namesFrom k) (contents-one k c))
 
 pub fine-kind : (before : List Field) (k : Kind) (c : List ℕ) → Fine before (whole (tagOf k) c) ↔ FineKind before k c
 fine-kind before k c = (there, back)
@@ -260,7 +233,7 @@ fine-kind before k c = (there, back)
           count = nleb→lt (mostOf k) (length (contents k before)) (not-kind k _ .0 (h .2));
           size = nltb→le mostContent (length c) (m .0);
           laid = not-not (laidOutAfter before k c) (m .1);
-          fresh = subst (λ (b : Bool). T (not b)) (taken before k c) (not-kind k _ .0 (h .4));
+          fresh = not-kind k _ .0 (h .4);
         }
 
     back : FineKind before k c → Fine before (whole (tagOf k) c)
@@ -271,7 +244,7 @@ fine-kind before k c = (there, back)
           (le→nltb (tagOf k) (lastTag before) (h .order)),
       not-kind k _ .1 (lt→nleb (mostOf k) (length (contents k before)) (h .count)),
       not-kind k _ .1 (neither-of (ltb mostContent (length c)) (not (laidOutAfter before k c)) (le→nltb mostContent (length c) (h .size)) (not-not-intro (laidOutAfter before k c) (h .laid))),
-      not-kind k _ .1 (subst (λ (b : Bool). T (not b)) (sym (taken before k c)) (h .fresh)),
+      not-kind k _ .1 (h .fresh),
     )
 
 -- a field that no number refuses is of some kind
@@ -299,7 +272,7 @@ pub record WellFields (fs : List Field) : Type 0 where
   pub counts : (k : Kind) → length (contents k fs) ≤ mostOf k
   pub sizes : (k : Kind) → All (λ (c : List ℕ). length c ≤ mostContent) (contents k fs)
   pub laid : (k : Kind) → All (λ (c : List ℕ). T (laidOutAfter fs k c)) (contents k fs)
-  pub names : (k : Kind) → NoneTwice (namesFrom k (contents k fs))
+  pub names : (k : Kind) → NoneTwice (namesIn k (contents k fs))
 
 -- the layout of a kind goes by the kinds before it
 laid-same : (fs gs : List Field) (k : Kind) (c : List ℕ) → ((j : Kind) → tagOf j < tagOf k → contents j fs ≡ contents j gs) → laidOutAfter fs k c ≡ laidOutAfter gs k c
@@ -336,12 +309,12 @@ fine-at before after k c h =
       size = All-split (λ (x : List ℕ). length x ≤ mostContent) (contents k before) (c ∷ contents k after) (subst (All (λ (x : List ℕ). length x ≤ mostContent)) at (h .sizes k)) .1 .0;
       laid = subst T (laid-same fs before k c (λ j lt. contents-before before after k j c (h .rising) lt)) (All-split (λ (x : List ℕ). T (laidOutAfter fs k x)) (contents k before) (c ∷ contents k after) (subst (All (λ (x : List ℕ). T (laidOutAfter fs k x))) at (h .laid k)) .1 .0);
       fresh =
-          fresh-front (namesFrom k (contents k before)) (namesFrom k (c ∷ [])) (namesFrom k (contents k after))
-          (none-twice-fresh (namesFrom k (contents k before)) (namesFrom k (c ∷ []) ++ namesFrom k (contents k after))
+          fresh-front (namesIn k (contents k before)) (namesIn k (c ∷ [])) (namesIn k (contents k after))
+          (none-twice-fresh (namesIn k (contents k before)) (namesIn k (c ∷ []) ++ namesIn k (contents k after))
           (subst NoneTwice
-          (ap (namesFrom k) at
+          (ap (namesIn k) at
           ∙ names-append k (contents k before) (c ∷ contents k after)
-          ∙ ap (λ (xs : List (List ℕ)). namesFrom k (contents k before) ++ xs) (names-append k (c ∷ []) (contents k after)))
+          ∙ ap (λ (xs : List (List ℕ)). namesIn k (contents k before) ++ xs) (names-append k (c ∷ []) (contents k after)))
           (h .names k)));
     }
 
@@ -359,7 +332,7 @@ well-fine fs h before (f ∷ after) e =
         (fine-kind before (k .0) c .1 (fine-at before after (k .0) c (subst (λ (t : ℕ). WellFields (before ++ whole t c ∷ after)) (k .1) w)))
 
 -- and back: fields each of which is fine are well formed
-lastTag-snoc : (before : List Field) (g : ℕ) (c : List ℕ) → lastTag (before ++ (whole g c ∷ [])) ≡ g
+pub lastTag-snoc : (before : List Field) (g : ℕ) (c : List ℕ) → lastTag (before ++ (whole g c ∷ [])) ≡ g
 lastTag-snoc [] g c = refl
 lastTag-snoc (f ∷ []) g c = refl
 lastTag-snoc (f ∷ x ∷ before) g c = lastTag-snoc (x ∷ before) g c
@@ -398,7 +371,7 @@ fine-well fs h =
       counts = λ k. fine-collect fs k (λ cs. length cs ≤ mostOf k) (λ before after c e w q. omega (arith, length-append (contents k before) (c ∷ []), w .count)) [] fs refl h zero-le;
       sizes = λ k. fine-collect fs k (All (λ (c : List ℕ). length c ≤ mostContent)) (λ before after c e w q. All-append _ (contents k before) (c ∷ []) q (w .size, tt)) [] fs refl h tt;
       laid = λ k. fine-collect fs k (All (λ (c : List ℕ). T (laidOutAfter fs k c))) (λ before after c e w q. All-append _ (contents k before) (c ∷ []) q (laid-after k before after c e (w .laid), tt)) [] fs refl h tt;
-      names = λ k. fine-collect fs k (λ cs. NoneTwice (namesFrom k cs)) (λ before after c e w q. one-more k (contents k before) c q (w .fresh)) [] fs refl h (none-twice-one (namesFrom k []) (le-trans (names-few k []) zero-le));
+      names = λ k. fine-collect fs k (λ cs. NoneTwice (namesIn k cs)) (λ before after c e w q. one-more k (contents k before) c q (w .fresh)) [] fs refl h (none-twice-one (namesIn k []) (le-trans (names-few k []) zero-le));
     }
   where
     rising : Rising 1 7 fs
@@ -408,7 +381,7 @@ fine-well fs h =
     laid-after k before after c e t =
         subst T (sym (laid-same fs before k c (λ j lt. ap (contents j) e ∙ contents-before before after k j c (subst (Rising 1 7) e rising) lt))) t
 
-    one-more : (k : Kind) (cs : List (List ℕ)) (c : List ℕ) → NoneTwice (namesFrom k cs) → Fresh (namesFrom k cs) (namesFrom k (c ∷ [])) → NoneTwice (namesFrom k (cs ++ (c ∷ [])))
+    one-more : (k : Kind) (cs : List (List ℕ)) (c : List ℕ) → NoneTwice (namesIn k cs) → Fresh (namesIn k cs) (namesIn k (c ∷ [])) → NoneTwice (namesIn k (cs ++ (c ∷ [])))
     one-more k cs c h fresh =
         subst NoneTwice (sym (names-append k cs (c ∷ [])))
-        (none-twice-append (namesFrom k cs) (namesFrom k (c ∷ [])) h (none-twice-one (namesFrom k (c ∷ [])) (names-few k (c ∷ []))) fresh)
+        (none-twice-append (namesIn k cs) (namesIn k (c ∷ [])) h (none-twice-one (namesIn k (c ∷ [])) (names-few k (c ∷ []))) fresh)

@@ -56,14 +56,14 @@ aritiesIn k fs = map firstByte (contents k fs)
 abbrev pub typesIn : List Field → ℕ
 typesIn fs = length (contents type fs)
 
--- the names of a kind; a production, a clause and a query have none
-abbrev pub namesIn : Kind → List Field → List (List ℕ)
-namesIn symbol fs = map (drop 1) (contents symbol fs)
-namesIn type fs = contents type fs
-namesIn production fs = []
-namesIn predicate fs = map (drop 1) (contents predicate fs)
-namesIn clause fs = []
-namesIn query fs = []
+-- the names in some contents of a kind; a production, a clause and a query have none
+abbrev pub namesIn : Kind → List (List ℕ) → List (List ℕ)
+namesIn symbol cs = map (drop 1) cs
+namesIn type cs = cs
+namesIn production cs = []
+namesIn predicate cs = map (drop 1) cs
+namesIn clause cs = []
+namesIn query cs = []
 
 -- the content is as laid out, its length aside, for so many declared types and for these arities of symbols and predicates
 abbrev pub laidOut : ℕ → List ℕ → List ℕ → Kind → List ℕ → Bool
@@ -109,7 +109,7 @@ malformed before (whole tag content) =
 abbrev pub nameTaken : List Field → Field → Bool
 nameTaken before cut = false
 nameTaken before (whole tag content) =
-    testKind (kindOf tag) (λ k. any (λ name. any (same name) (namesIn k before)) (namesIn k (whole tag content ∷ [])))
+    testKind (kindOf tag) (λ k. any (λ name. any (same name) (namesIn k (contents k before))) (namesIn k (content ∷ [])))
 
 -- the number with which a field is refused, by 2, 3, 6, 4, 5; 0 if none fits
 unfoldable pub refusal : List Field → Field → ℕ
