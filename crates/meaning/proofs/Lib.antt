@@ -1,6 +1,7 @@
 -- The theorems, and the laws they rest on.
 pub mod Lists
 pub mod Setting
+pub mod Loops
 pub mod Answers
 pub mod Sets
 pub mod Types

@@ -1,0 +1,51 @@
+-- The turns of a loop over a list: what a test of all members, or of two lists, says from a place on: nothing is left, or the member at the place
+-- decides, or those after it do. Assumes nothing.
+use Prim.Native.Nat.{ℕ, _+_, _-_, _≤_, _<_}
+use mathlib.Core.Path.{_≡_, ap, ap₂, _∙_}
+use mathlib.Core.Bool.{Bool, true, false, _&&_}
+use mathlib.Core.List.{List}
+use native.Mathlib.Omega.{arith}
+use native.Mathlib.Numerals.{add-one}
+use lib.Dec.{eqb}
+use lib.ListN.{length, getD, take, drop, length-drop, drop-of-length-le}
+use lib.Seq.{drop-cons, take-all}
+use borrow.Author.Tests.{eq-eqb, ne-eqb}
+use Rattle.meaning.specs.Lists.{all, same}
+use Rattle.meaning.proofs.Lists.{T-false, not-intro, same-eq}
+
+-- the part from a place to the end
+pub part-rest : (n : ℕ) (s : List ℕ) → take (length s - n) (drop n s) ≡ drop n s
+part-rest n s = take-all (length s - n) (drop n s) (simp length-drop (omega arith))
+
+-- all bytes from a place on
+module _ (f : ℕ → Bool) (l : List ℕ) (i : ℕ) where
+  pub all-end : length l ≤ i → all f (drop i l) ≡ true
+  all-end h = ap (all f) (drop-of-length-le l h)
+
+  module _ (h : i < length l) where
+    all-step : all f (drop i l) ≡ (f (getD l i 0) && all f (drop (i + 1) l))
+    all-step = rw (add-one i) (ap (all f) (drop-cons l i 0 h))
+
+    pub all-fails : f (getD l i 0) ≡ false → all f (drop i l) ≡ false
+    all-fails e = all-step ∙ ap (λ (b : Bool). b && all f (drop (i + 1) l)) e
+
+    pub all-next : f (getD l i 0) ≡ true → all f (drop i l) ≡ all f (drop (i + 1) l)
+    all-next e = all-step ∙ ap (λ (b : Bool). b && all f (drop (i + 1) l)) e
+
+-- two lists from a place on
+pub same-lengths : (a b : List ℕ) → (length a ≡ length b → ⊥) → same a b ≡ false
+same-lengths a b h = T-false (same a b) (not-intro (same a b) (λ t. h (ap length (same-eq a b t))))
+
+module _ (a b : List ℕ) (i : ℕ) where
+  pub same-end : length a ≤ i → length b ≤ i → same (drop i a) (drop i b) ≡ true
+  same-end h k = ap₂ same (drop-of-length-le a h) (drop-of-length-le b k)
+
+  module _ (h : i < length a) (k : i < length b) where
+    same-step : same (drop i a) (drop i b) ≡ (eqb (getD a i 0) (getD b i 0) && same (drop (i + 1) a) (drop (i + 1) b))
+    same-step = rw (add-one i) (ap₂ same (drop-cons a i 0 h) (drop-cons b i 0 k))
+
+    pub same-differs : (getD a i 0 ≡ getD b i 0 → ⊥) → same (drop i a) (drop i b) ≡ false
+    same-differs d = same-step ∙ rw (ne-eqb (getD a i 0) (getD b i 0))
+
+    pub same-next : getD a i 0 ≡ getD b i 0 → same (drop i a) (drop i b) ≡ same (drop (i + 1) a) (drop (i + 1) b)
+    same-next e = same-step ∙ rw (eq-eqb (getD a i 0) (getD b i 0))
