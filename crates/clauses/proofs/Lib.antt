@@ -1,0 +1,4 @@
+pub mod Whole
+pub mod Clauses
+pub mod Conditions
+pub mod Queries
