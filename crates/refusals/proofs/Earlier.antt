@@ -12,10 +12,10 @@ use Rattle.meaning.specs.Fields.{Front, frontOf}
 use Rattle.fields.specs.Found.{foundIn}
 use Rattle.fields.specs.declared.Found.{Found}
 use Rattle.fields.specs.declared.Found.the-variants.{End, Cut, Whole}
-use Rattle.refusals.specs.Known.{contentsFrom, onContent}
+use Rattle.fields.specs.Found.{contentsFrom, onContent}
 use Rattle.refusals.specs.Tests.{takenIn, earlierIn, isTaken}
 use Rattle.refusals.specs.declared.Known.{Known}
-use Rattle.refusals.proofs.Fronts.{found-whole, found-cut, found-end, front-rest, front-inside, front-content}
+use Rattle.fields.proofs.Fronts.{found-whole, found-cut, found-end, front-rest, front-inside, front-content}
 
 -- the name is that of one of the next `left` fields, past the first few bytes of the content
 unfoldable pub named : List ℕ → ℕ → List ℕ → ℕ → ℕ → Bool

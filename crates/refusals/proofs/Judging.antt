@@ -16,7 +16,8 @@ use Rattle.meaning.specs.Refusals.{Answer, accepted, refused, kindOf, testKind,
 use Rattle.meaning.proofs.Lists.{getD-table}
 use Rattle.meaning.proofs.Contents.{Post}
 use Rattle.meaning.proofs.ByKind.{kind-tag, tag-range}
-use Rattle.refusals.specs.Known.{padded, firstAt, contentsFrom}
+use Rattle.fields.specs.Found.{contentsFrom}
+use Rattle.refusals.specs.Known.{padded, firstAt}
 use Rattle.refusals.specs.declared.Known.{Known}
 use Rattle.refusals.specs.Tests.{wrongTagAfter, full, knownTypes, knownSymbols, knownPredicates, earlierIn, isFull, isMalformed, isTaken, numbered, Stands}
 

@@ -1,6 +1,5 @@
 -- The laws that the proofs of this crate cite.
 pub mod Tags
-pub mod Fronts
 pub mod LaidOut
 pub mod Earlier
 pub mod Judging

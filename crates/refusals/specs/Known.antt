@@ -1,5 +1,5 @@
 -- What reading keeps of some fields: how many of each kind, where each kind starts, the arities; and the fields that were read.
-use Prim.Native.Nat.{ℕ, zero, suc, _+_, _-_}
+use Prim.Native.Nat.{ℕ, _+_, _-_}
 use mathlib.Core.Path.{_≡_}
 use mathlib.Core.Bool.{cond}
 use mathlib.Core.List.{List, [], _∷_, _++_}
@@ -8,7 +8,7 @@ use lib.Dec.{eqb, ltb}
 use lib.ListN.{length, take, replicate}
 use Rattle.meaning.specs.Lists.{table}
 use Rattle.meaning.specs.Limits.{symbol, predicate, mostOf, mostFileBytes}
-use Rattle.meaning.specs.Fields.{Field, whole, cut, Front, empty, short, front, frontOf, fields, contentsOf}
+use Rattle.meaning.specs.Fields.{Field, whole, cut, fields, contentsOf}
 use Rattle.meaning.specs.Refusals.{aritiesIn, firstRefused}
 use Rattle.refusals.specs.declared.Known.{Known}
 
@@ -37,16 +37,6 @@ pub record Knows (known : Known) (fs : List Field) : Type 0 where
   pub starts : known .starts ≡ startsOf fs
   pub symbols : known .symbols ≡ padded (mostOf symbol) (aritiesIn symbol fs)
   pub predicates : known .predicates ≡ padded (mostOf predicate) (aritiesIn predicate fs)
-
--- the contents of the first n fields of some bytes
-abbrev pub onContent : Front → (List ℕ → List (List ℕ)) → List (List ℕ)
-onContent empty later = []
-onContent short later = []
-onContent (front tag content rest) later = content ∷ later rest
-
-abbrev pub contentsFrom : ℕ → List ℕ → List (List ℕ)
-contentsFrom zero bytes = []
-contentsFrom (suc n) bytes = onContent (frontOf bytes) (λ rest. contentsFrom n rest)
 
 -- the fields before the first that is refused; none of a file that is too long
 abbrev pub before : List Field → Option ℕ → List Field

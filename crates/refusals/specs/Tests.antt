@@ -10,7 +10,8 @@ use Rattle.meaning.specs.Limits.{mostOf, mostContent}
 use Rattle.meaning.specs.Fields.{Field, contentsOf}
 use Rattle.meaning.specs.Contents.{isSome}
 use Rattle.meaning.specs.Refusals.{Answer, refused, accepted, kindOf, testKind, namesIn, laidOut, lastTag}
-use Rattle.refusals.specs.Known.{Knows, contentsFrom, firstAt}
+use Rattle.fields.specs.Found.{contentsFrom}
+use Rattle.refusals.specs.Known.{Knows, firstAt}
 use Rattle.refusals.specs.declared.Known.{Known}
 
 abbrev pub wrongTagAfter : ℕ → ℕ → Bool

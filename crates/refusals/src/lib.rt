@@ -7,7 +7,7 @@ ghost use lib.ListN.{length, take, drop};
 ghost use Rattle.meaning.specs.Lists.{any, same};
 ghost use Rattle.meaning.specs.Fields.{Field, whole};
 ghost use Rattle.meaning.specs.Refusals.{refusal};
-ghost use Rattle.refusals.specs.Known.{contentsFrom};
+ghost use Rattle.fields.specs.Found.{contentsFrom};
 ghost use Rattle.refusals.specs.Tests.{wrongTagAfter, full, isLaid, isMalformed, isTaken, numbered, Stands, Within};
 ghost use Rattle.refusals.specs.Verdict.{answerOf};
 

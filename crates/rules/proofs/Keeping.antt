@@ -1,21 +1,21 @@
 -- What reading keeps, with one field more. Assumes nothing.
 use Prim.Native.Nat.{ℕ, zero, suc, _+_, _-_, _≤_, _<_}
 use mathlib.Core.Path.{_≡_, refl, sym, ap, ap₂, subst, _∙_}
-use mathlib.Core.Logic.{_⊎_, inl, inr, ⊎-elim, _≢_}
+use mathlib.Core.Logic.{_≢_}
 use mathlib.Core.Bool.{Bool, true, false, cond, not}
 use mathlib.Core.List.{List, [], _∷_, _++_, map, append-assoc, append-nil, map-append}
 use native.Mathlib.Nat.{zero-lt-suc, add-assoc, add-zero, zero-add, suc-ne-zero, suc-inj, not-suc-le-zero, le-of-suc-le-suc}
 use native.Mathlib.Omega.{arith}
 use lib.Dec.{T, eqb, eqb→eq, eqb-refl, eqb·suc-zero, lit<}
 use native.Mathlib.Decide.{ℕ-discrete}
-use lib.ListN.{length-map, length, getD, set, take, drop, replicate, length-append, length-replicate}
-use lib.Seq.{take-append-seam, set-append-seam, ext-getD, getD-set-same, getD-set-other}
+use lib.ListN.{length-map, length, getD, set, take, replicate, length-append, length-replicate}
+use lib.Seq.{take-append-seam, set-append-seam}
 use Rattle.meaning.specs.Lists.{All, table}
 use Rattle.meaning.specs.Limits.{Kind, symbol, predicate, tagOf, mostOf}
 use Rattle.meaning.specs.Refusals.{contents, firstByte, aritiesIn, typesIn, isCut}
 use Rattle.refusals.specs.Tests.{knownTypes, knownSymbols, knownPredicates}
 use Rattle.meaning.specs.Fields.{Field, whole, cut, contentsOf}
-use Rattle.meaning.proofs.Lists.{length-table, getD-table, decide, not-intro, cond-yes, cond-no, table-ext}
+use Rattle.meaning.proofs.Lists.{getD-table, not-intro, cond-yes, cond-no, table-ext}
 use Rattle.meaning.proofs.Fields.{contentsOf-append}
 use Rattle.rules.specs.Read.{bytesIn, startedAt, roomFor}
 use Rattle.refusals.specs.declared.Known.{Known}

@@ -1,27 +1,28 @@
 -- The loop over the fields: what holds after some of them are read, and what follows at each way out. Assumes nothing.
-use Prim.Native.Nat.{ℕ, zero, suc, _+_, _≤_, _<_, zero-le}
+use Prim.Native.Nat.{ℕ, suc, _+_, _≤_, _<_, zero-le}
 use mathlib.Core.Path.{_≡_, refl, sym, ap, ap₂, subst, subst₂, _∙_}
 use mathlib.Core.Logic.{_⊎_, inl, inr, ⊎-elim, _≢_}
-use mathlib.Core.Bool.{Bool, true, false, cond, not}
-use mathlib.Core.List.{List, [], _∷_, _++_, append-assoc, append-nil}
-use mathlib.Core.Option.{Option, none, some}
-use native.Mathlib.Nat.{le-of-lt, le-refl, le-of-eq, eq-or-lt-of-le, add-zero, add-assoc, zero-add}
+use mathlib.Core.Bool.{cond, not}
+use mathlib.Core.List.{List, [], _∷_, _++_, append-nil}
+use mathlib.Core.Option.{none, some}
+use native.Mathlib.Nat.{le-of-lt, le-refl, le-of-eq, eq-or-lt-of-le, add-zero, add-assoc}
 use native.Mathlib.Numerals.{add-one}
 use native.Mathlib.Omega.{arith}
 use lib.Dec.{T, eqb, eqb→eq, eqb-refl}
-use lib.ListN.{length, getD, take, drop, length-append, length-drop, drop-of-length-le, List·getD-append}
-use lib.Seq.{drop-drop, drop-append-seam, drop-nil, take-append-seam, take-append-le, getD-append-seam}
+use lib.ListN.{length, drop, length-append, List·getD-append}
+use lib.Seq.{take-append-seam, take-append-le, getD-append-seam}
 use Rattle.meaning.specs.Lists.{All}
 use Rattle.meaning.specs.Fields.{Field, whole, cut, Front, empty, short, front, frontOf, onFront, fields, contentsOf}
-use Rattle.meaning.specs.Refusals.{Answer, accepted, refuseIf, noConstant, contents, aritiesIn, isRefused, isCut, lastTag, refusal, firstRefused, refused}
+use Rattle.meaning.specs.Refusals.{refuseIf, noConstant, contents, aritiesIn, isRefused, isCut, lastTag, refusal, firstRefused, refused}
 use Rattle.meaning.specs.Limits.{symbol}
 use Rattle.meaning.specs.Files.{answerAt, rulesIn}
 use Rattle.meaning.proofs.Lists.{decide, cond-yes, cond-no, not-intro}
-use Rattle.meaning.proofs.Fields.{FrontIs, front-law, fields-step, NoField, NoField-append, NoField-at, firstField-none, firstField-some}
-use Rattle.meaning.proofs.ByKind.{lastTag-snoc, Rising, contents-below, WellFields, fine-well}
+use Rattle.meaning.proofs.Fields.{fields-step, NoField, NoField-append, NoField-at, firstField-none, firstField-some}
+use Rattle.meaning.proofs.ByKind.{lastTag-snoc, Rising, contents-below}
 use Rattle.meaning.proofs.Acceptance.{arities-named}
-use Rattle.refusals.proofs.Fronts.{front-rest, front-inside}
-use Rattle.refusals.specs.Known.{Knows, before, contentsFrom, onContent, firstAt}
+use Rattle.fields.proofs.Fronts.{front-rest, front-inside}
+use Rattle.fields.specs.Found.{contentsFrom, onContent}
+use Rattle.refusals.specs.Known.{Knows, before, firstAt}
 use Rattle.refusals.specs.declared.Known.{Known}
 use Rattle.rules.specs.Read.{bytesIn, Outcome}
 

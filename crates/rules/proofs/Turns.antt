@@ -1,17 +1,17 @@
 -- What each turn of the loop over the fields asks. Assumes nothing.
 use Prim.Native.Nat.{ℕ, zero, suc, _+_, _≤_, _<_}
 use mathlib.Core.Path.{_≡_, refl, sym, ap, subst, subst₂, _∙_}
-use mathlib.Core.Logic.{_⊎_, inl, inr, ⊎-elim, _≢_}
+use mathlib.Core.Logic.{_≢_}
 use mathlib.Core.Bool.{Bool, cond, not}
 use mathlib.Core.List.{List, [], _∷_, _++_}
 use native.Mathlib.Nat.{suc-ne-zero, zero-add}
 use native.Mathlib.Numerals.{add-one}
 use native.Mathlib.Omega.{arith}
-use lib.Dec.{T, eqb, eqb·suc-zero, lit<}
+use lib.Dec.{T, eqb·suc-zero, lit<}
 use lib.ListN.{length, getD, take, drop}
 use Rattle.meaning.specs.Lists.{All}
 use Rattle.meaning.specs.Limits.{Kind, symbol, type, production, predicate, clause, query, tagOf, mostOf}
-use Rattle.meaning.specs.Fields.{Field, whole, Front, front, frontOf, contentsOf}
+use Rattle.meaning.specs.Fields.{Field, whole, front, frontOf, contentsOf}
 use Rattle.meaning.specs.Refusals.{Answer, aritiesIn, refused, accepted, ok, isCut, refusal}
 use Rattle.meaning.proofs.Answers.{fine-refusal}
 use Rattle.meaning.proofs.ByKind.{WellFields, tag-range, fine-well, fine-some}
@@ -21,7 +21,7 @@ use Rattle.refusals.specs.declared.Known.{Known}
 use Rattle.refusals.specs.declared.Verdict.{Verdict}
 use Rattle.refusals.specs.Known.{Knows}
 use Rattle.refusals.specs.Verdict.{answerOf}
-use Rattle.refusals.proofs.Fronts.{front-inside, front-content, found-whole}
+use Rattle.fields.proofs.Fronts.{front-inside, front-content, found-whole}
 use Rattle.refusals.specs.Tests.{numbered, Stands, Within}
 use Rattle.rules.specs.Read.{roomFor, bytesIn, Outcome}
 use Rattle.rules.proofs.Keeping.{count-of, length-padded, length-arities}

@@ -1,31 +1,30 @@
 -- A file that is read whole: what is known of it are its rules, and where to find them. Assumes nothing.
-use Prim.Native.Nat.{ℕ, _+_, _≤_, _<_}
+use Prim.Native.Nat.{ℕ, _+_}
 use mathlib.Core.Path.{_≡_, refl, sym, ap, ap₂, subst, _∙_}
-use mathlib.Core.Bool.{Bool, not}
+use mathlib.Core.Bool.{not}
 use mathlib.Core.List.{List, [], _∷_, map}
 use mathlib.Core.Option.{none}
 use native.Mathlib.Omega.{arith}
 use lib.Dec.{T, ltb}
 use lib.Arith.{le→nltb}
-use lib.ListN.{length, getD, take, drop}
-use lib.Seq.{take-append-seam}
+use lib.ListN.{length, drop}
 use Rattle.meaning.specs.Lists.{All}
-use Rattle.meaning.specs.Syntax.{Rules}
-use Rattle.meaning.specs.Limits.{Kind, symbol, type, production, predicate, clause, query, tagOf, mostFileBytes}
+use Rattle.meaning.specs.Limits.{Kind, symbol, production, predicate, clause, query, tagOf, mostFileBytes}
 use Rattle.meaning.specs.Fields.{Field, whole, cut, Front, empty, short, front, frontOf, onFront, fields}
 use Rattle.meaning.specs.Contents.{readClause, readQuery}
 use Rattle.meaning.specs.Legal.{arities}
-use Rattle.meaning.specs.Refusals.{accepted, isRefused, isCut, contents, aritiesIn, typesIn, firstRefused}
+use Rattle.meaning.specs.Refusals.{accepted, isRefused, isCut, contents, typesIn, firstRefused}
 use Rattle.meaning.specs.Files.{readAll, productionOf, rulesIn, rulesOf, readAnswer}
 use Rattle.meaning.proofs.Lists.{cond-no}
-use Rattle.meaning.proofs.Fields.{fields-step, NoField, firstField-none}
+use Rattle.meaning.proofs.Fields.{fields-step, firstField-none}
 use Rattle.meaning.proofs.Answers.{none-refused, read-accepted}
 use Rattle.meaning.proofs.ByKind.{tag-range, WellFields, fine-well, Rising}
 use Rattle.meaning.proofs.Acceptance.{arities-named}
 use Rattle.refusals.specs.declared.Known.{Known}
-use Rattle.refusals.specs.Known.{Knows, contentsFrom, firstAt, startsOf, tags, before, fieldsRead}
+use Rattle.fields.specs.Found.{contentsFrom}
+use Rattle.refusals.specs.Known.{Knows, before, fieldsRead}
 use Rattle.refusals.specs.Tests.{knownTypes, knownSymbols, knownPredicates, earlierIn}
-use Rattle.refusals.proofs.Fronts.{front-rest}
+use Rattle.fields.proofs.Fronts.{front-rest}
 use Rattle.rules.proofs.Keeping.{count-of, start-of, known-types, known-symbols, known-predicates}
 use Rattle.rules.proofs.Reached.{Chain, contents-found}
 
