@@ -3,6 +3,7 @@ pub mod Lists
 pub mod Setting
 pub mod Loops
 pub mod Answers
+pub mod Bits
 pub mod Sets
 pub mod Types
 pub mod Cells

@@ -1,0 +1,176 @@
+-- `automaton::fill` meets its contract. The loop's invariant: the productions left, marked in the buffer as it is, give what all of them give in the
+-- emptied buffer; the measure is how many are left. Assumes nothing.
+use mathlib.Core.Path.{_≡_, refl, _∙_}
+use native.Mathlib.Omega.{arith}
+use lib.ListN.{length, drop}
+use borrow.Author.Needs.{needs}
+use Rattle.fields.specs.Found.{contentsFrom}
+use Rattle.automaton.specs.Marking.{AreProductions}
+use Rattle.automaton.proofs.Turns.{fillable-same, length-markProduction, markFrom, never-cut, never-end, field-inside, first-long, first-well, rest-are, from-next}
+use Rattle.automaton.proofs.Given.{length-begun, filled}
+use Rattle.automaton.proofs.fill.Statement.{statement}
+use Rattle.automaton.proofs.fill.Tie as tie
+
+abbrev Inv-loop : tie.InvT-loop
+Inv-loop sets₀ states arities types file from count at₀ left₀ sets at left =
+    (length sets ≡ length sets₀)
+    × AreProductions types arities left (contentsFrom left (drop at file))
+    × (markFrom states arities file left at sets ≡ markFrom states arities file count from sets₀)
+
+abbrev μ-loop : tie.MeasureT-loop
+μ-loop sets₀ states arities types file from count at₀ left₀ sets at left = left
+
+cells-of-requires : tie.Need-cells-of-requires Inv-loop μ-loop
+cells-of-requires c κs = let p = c .before .before .before .before .before .pre .0 .0 in (p .few, p .symbols, p .small)
+
+clear-requires : tie.Need-clear-requires Inv-loop μ-loop
+clear-requires c κs = omega (arith, c .before .before .before .before .before .before .pre .0 .0 .room, c .cells-of .ensures)
+
+loop-holds : tie.Need-loop-holds Inv-loop μ-loop
+loop-holds c = (refl, c .before .before .before .before .before .before .before .before .before .pre .1, refl)
+
+field-at-requires : tie.Need-field-at-requires Inv-loop μ-loop
+field-at-requires c κs = tt
+
+enum-known-len : tie.Need-enum-known-len Inv-loop μ-loop
+enum-known-len c = search needs
+
+content-requires : tie.Need-content-requires Inv-loop μ-loop
+content-requires c κs =
+    let told = c .before in
+    let turn = told .before .before .before in
+    let loop = turn .before .loop in
+    let start = turn .before .before .before .before .before .before .before .before .before .before .before in
+    let a = start .args in
+    field-inside (a .file .now) (loop .at) (turn .loop-test .taken) (loop .inv .1) (told .before .before .field-at .ensures) (told .len .given .1)
+
+mark-production-requires : tie.Need-mark-production-requires Inv-loop μ-loop
+mark-production-requires c κs =
+    let told = c .before .before .before in
+    let turn = told .before .before .before in
+    let loop = turn .before .loop in
+    let begun = turn .before .before .before .before in
+    let start = begun .before .before .before .before .before .before .before in
+    let a = start .args in (
+      fillable-same (start .pre .0 .0) (loop .inv .0 ∙ length-begun (a .states .now) (a .arities .now) (a .sets .now) (start .pre .0 .0) (begun .before .cells-of .ensures) (begun .clear .ensures)),
+      first-long (a .file .now) (loop .at) (turn .loop-test .taken) (loop .inv .1) (told .before .before .field-at .ensures) (told .len .given .1) (c .before .content .ensures .0),
+      first-well (a .file .now) (loop .at) (turn .loop-test .taken) (loop .inv .1) (told .before .before .field-at .ensures) (told .len .given .1) (c .before .content .ensures .0) (start .pre .0 .1),
+    )
+
+add-at : tie.Need-add-at Inv-loop μ-loop
+add-at c =
+    let told = c .before .before .before .before .before .before in
+    let turn = told .before .before .before in
+    let loop = turn .before .loop in
+    let start = turn .before .before .before .before .before .before .before .before .before .before .before in
+    let a = start .args in
+    omega (arith, field-inside (a .file .now) (loop .at) (turn .loop-test .taken) (loop .inv .1) (told .before .before .field-at .ensures) (told .len .given .1))
+
+add-at-2 : tie.Need-add-at-2 Inv-loop μ-loop
+add-at-2 c =
+    let told = c .before .before .before .before .before .before in
+    let turn = told .before .before .before in
+    let loop = turn .before .loop in
+    let start = turn .before .before .before .before .before .before .before .before .before .before .before in
+    let a = start .args in
+    omega (arith, field-inside (a .file .now) (loop .at) (turn .loop-test .taken) (loop .inv .1) (told .before .before .field-at .ensures) (told .len .given .1))
+
+sub-left : tie.Need-sub-left Inv-loop μ-loop
+sub-left c = omega arith
+
+loop-less : tie.Need-loop-less Inv-loop μ-loop
+loop-less c = omega arith
+
+loop-again : tie.Need-loop-again Inv-loop μ-loop
+loop-again c =
+    let told = c .before .before .before .before .before .before in
+    let turn = told .before .before .before in
+    let loop = turn .before .loop in
+    let start = turn .before .before .before .before .before .before .before .before .before .before .before in
+    let a = start .args in
+    let marked = c .before .before .mark-production .ensures in (
+      length-markProduction (a .states .now) (a .arities .now) _ (loop .sets) marked ∙ loop .inv .0,
+      rest-are (a .file .now) (loop .at) (turn .loop-test .taken) (loop .inv .1) (told .before .before .field-at .ensures) (told .len .given .1) (c .before .before .before .before .content .ensures .0),
+      from-next (a .file .now) (loop .at) (turn .loop-test .taken) (loop .inv .1) (told .before .before .field-at .ensures) (told .len .given .1) (c .before .before .before .before .content .ensures .0) (a .states .now) (loop .sets) marked ∙ loop .inv .2,
+    )
+
+enum-told : tie.Need-enum-told Inv-loop μ-loop
+enum-told c = search needs
+
+same-length : tie.Need-same-length Inv-loop μ-loop
+same-length c =
+    let loop = c .before .before .before .before .loop in
+    let begun = c .before .before .before .before .before .before .before in
+    let start = begun .before .before .before .before .before .before .before in
+    let a = start .args in
+    loop .inv .0 ∙ length-begun (a .states .now) (a .arities .now) (a .sets .now) (start .pre .0 .0) (begun .before .cells-of .ensures) (begun .clear .ensures)
+
+returns : tie.Need-returns Inv-loop μ-loop
+returns c =
+    let turn = c .before .before .before in
+    let loop = turn .before .loop in
+    let start = turn .before .before .before .before .before .before .before .before .before .before .before in
+    let a = start .args in
+    absurd (never-cut (a .file .now) (loop .at) (turn .loop-test .taken) (loop .inv .1) (c .before .before .field-at .ensures) (c .enum-told .given .1))
+
+enum-told-2 : tie.Need-enum-told-2 Inv-loop μ-loop
+enum-told-2 c = search needs
+
+same-length-2 : tie.Need-same-length-2 Inv-loop μ-loop
+same-length-2 c =
+    let loop = c .before .before .before .before .loop in
+    let begun = c .before .before .before .before .before .before .before in
+    let start = begun .before .before .before .before .before .before .before in
+    let a = start .args in
+    loop .inv .0 ∙ length-begun (a .states .now) (a .arities .now) (a .sets .now) (start .pre .0 .0) (begun .before .cells-of .ensures) (begun .clear .ensures)
+
+returns-2 : tie.Need-returns-2 Inv-loop μ-loop
+returns-2 c =
+    let turn = c .before .before .before in
+    let loop = turn .before .loop in
+    let start = turn .before .before .before .before .before .before .before .before .before .before .before in
+    let a = start .args in
+    absurd (never-end (a .file .now) (loop .at) (turn .loop-test .taken) (loop .inv .1) (c .before .before .field-at .ensures) (c .enum-told2 .given .1))
+
+same-length-3 : tie.Need-same-length-3 Inv-loop μ-loop
+same-length-3 c =
+    let loop = c .before .loop in
+    let begun = c .before .before .before .before in
+    let start = begun .before .before .before .before .before .before .before in
+    let a = start .args in
+    loop .inv .0 ∙ length-begun (a .states .now) (a .arities .now) (a .sets .now) (start .pre .0 .0) (begun .before .cells-of .ensures) (begun .clear .ensures)
+
+returns-3 : tie.Need-returns-3 Inv-loop μ-loop
+returns-3 c =
+    let loop = c .before .loop in
+    let begun = c .before .before .before .before in
+    let start = begun .before .before .before .before .before .before .before in
+    let a = start .args in
+    filled (a .states .now) (a .arities .now) (a .sets .now) (start .pre .0 .0) (begun .before .cells-of .ensures) (begun .clear .ensures) (a .file .now) (a .types) (a .from) (a .count) (loop .left) (loop .at) (start .pre .0 .1) (start .pre .1) (c .loop-test .left) (loop .inv .2)
+
+pub fill-spec : {M : Type 1} → statement M
+fill-spec =
+    tie.close
+    (tie.spec
+    Inv-loop
+    μ-loop
+    cells-of-requires
+    clear-requires
+    loop-holds
+    field-at-requires
+    enum-known-len
+    content-requires
+    mark-production-requires
+    add-at
+    add-at-2
+    sub-left
+    loop-less
+    loop-again
+    enum-told
+    same-length
+    returns
+    enum-told-2
+    same-length-2
+    returns-2
+    same-length-3
+    returns-3)

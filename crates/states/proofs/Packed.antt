@@ -1,0 +1,108 @@
+-- At most 16 numbers in an array of 16 places: what the array holds, and what is known of an answer. Assumes nothing.
+use Prim.Native.Nat.{ℕ, suc, _+_, _-_, _≤_, _<_}
+use mathlib.Core.Path.{_≡_, refl, sym, ap, ap₂, _∙_}
+use mathlib.Core.Bool.{Bool, true, false, cond}
+use mathlib.Core.List.{List, [], _∷_, _++_, append-assoc}
+use native.Mathlib.Numerals.{add-one}
+use native.Mathlib.Omega.{arith}
+use lib.Dec.{leb}
+use lib.ListN.{length, take, drop, replicate, length-append, length-take, length-drop, length-replicate}
+use lib.Seq.{take-append-le, drop-append-le, drop-append-add, take-at}
+use borrow.Author.Tests.{le-leb, lt-leb, leb-true, leb-false}
+use Rattle.meaning.specs.Limits.{mostStates}
+use Rattle.states.specs.Packed.{putAt, padded, Holds, packed, tooMany}
+use Rattle.states.specs.declared.Count.the-variants.{Known, TooMany}
+use Rattle.states.specs.declared.States.{States}
+
+-- the numbers and the zeros behind them
+pub zeros : replicate mostStates 0 ≡ padded []
+unfolding padded
+zeros = refl
+
+pub take-padded : (l : List ℕ) (n : ℕ) → n ≡ length l → take n (padded l) ≡ l
+unfolding padded
+take-padded l n e = take-at l (replicate (mostStates - length l) 0) n (sym e)
+
+-- an array whose first n places are followed by zeros has so many numbers
+pub length-held : {sets : List ℕ} {n : ℕ} → Holds sets n → length (take n sets) ≡ n
+unfolding padded
+length-held {sets} {n} h =
+    let size : length sets ≡ length (take n sets) + (mostStates - length (take n sets)) =
+    ap (λ (l : List ℕ). length l) (h .padding) ∙ simp (length-append, length-replicate) in
+    omega (arith, length-take n sets, h .few)
+
+pub holds-again : (n : ℕ) (sets l : List ℕ) → n ≤ mostStates → n ≡ length l → sets ≡ padded l → Holds sets n
+holds-again n sets l few size held =
+    record { few = few; padding = held ∙ ap padded (sym (ap (take n) held ∙ take-padded l n size)) }
+
+-- one more number
+pub length-put : (l : List ℕ) (i s : ℕ) → i ≤ length l → length (take i l ++ (s ∷ drop i l)) ≡ suc (length l)
+length-put l i s h = simp (length-append, length-take, length-drop) (omega arith)
+
+pub padded-put :
+    (l : List ℕ) (i s : ℕ)
+    → length l < mostStates
+    → i ≤ length l
+    → putAt (padded l) i (length l) s ≡ padded (take i l ++ (s ∷ drop i l))
+unfolding putAt padded
+padded-put l i s few h =
+    ap₂ (λ (a b : List ℕ). a ++ (s ∷ b)) (take-append-le i l z h) (ap₂ _++_ middle behind)
+    ∙ sym (append-assoc (take i l) (s ∷ drop i l) (replicate (mostStates - suc (length l)) 0))
+    ∙ ap (λ (n : ℕ). (take i l ++ (s ∷ drop i l)) ++ replicate (mostStates - n) 0) (sym (length-put l i s h))
+  where
+    z : List ℕ
+    z = replicate (mostStates - length l) 0
+
+    middle : take (length l - i) (drop i (l ++ z)) ≡ drop i l
+    middle = rw (drop-append-le i l z h) (take-at (drop i l) z (length l - i) (length-drop i l))
+
+    behind : drop (suc (length l)) (l ++ z) ≡ replicate (mostStates - suc (length l)) 0
+    behind =
+        ap (λ (n : ℕ). drop n (l ++ z)) (sym (add-one (length l)))
+        ∙ drop-append-add l z 1
+        ∙ ap (λ (n : ℕ). drop 1 (replicate n 0)) left
+      where
+        left : mostStates - length l ≡ suc (mostStates - suc (length l))
+        left = omega arith
+
+-- the answer, from the list and back
+pub packed-known : (l : List ℕ) → length l ≤ mostStates → packed l ≡ record { count = Known (length l); sets = padded l }
+unfolding packed
+packed-known l h = simp (le-leb (length l) mostStates h)
+
+pub packed-many : (l : List ℕ) → mostStates < length l → packed l ≡ tooMany
+unfolding packed
+packed-many l h = simp (lt-leb (length l) mostStates h)
+
+pub known-is : {r : States} (l : List ℕ) {k : ℕ} → r ≡ packed l → r .count ≡ Known k → (k ≡ length l) × (length l ≤ mostStates) × (r .sets ≡ padded l)
+unfolding packed
+known-is {r} l {k} e f = go (leb (length l) mostStates) refl e
+  where
+    go : (b : Bool)
+        → leb (length l) mostStates ≡ b
+        → r ≡ cond b (record { count = Known (length l); sets = padded l }) tooMany
+        → (k ≡ length l) × (length l ≤ mostStates) × (r .sets ≡ padded l)
+    go true t e =
+        let same : Known k ≡ Known (length l) = sym f ∙ ap (λ (x : States). x .count) e in
+        (cc, leb-true (length l) mostStates t, ap (λ (x : States). x .sets) e)
+    go false t e =
+        let other : Known k ≡ TooMany = sym f ∙ ap (λ (x : States). x .count) e in
+        let z : _≡_ {A = ℕ} 0 1 = cc in
+        absurd (omega arith)
+
+pub known-sets : {r : States} (l : List ℕ) {k : ℕ} → r ≡ packed l → r .count ≡ Known k → take k (r .sets) ≡ l
+known-sets l {k} e f = let w = known-is l e f in ap (take k) (w .2) ∙ take-padded l k (w .0)
+
+pub many-is : {r : States} (l : List ℕ) → r ≡ packed l → r .count ≡ TooMany → (mostStates < length l) × (r ≡ tooMany)
+unfolding packed
+many-is {r} l e f = go (leb (length l) mostStates) refl e
+  where
+    go : (b : Bool)
+        → leb (length l) mostStates ≡ b
+        → r ≡ cond b (record { count = Known (length l); sets = padded l }) tooMany
+        → (mostStates < length l) × (r ≡ tooMany)
+    go true t e =
+        let other : TooMany ≡ Known (length l) = sym f ∙ ap (λ (x : States). x .count) e in
+        let z : _≡_ {A = ℕ} 0 1 = cc in
+        absurd (omega arith)
+    go false t e = (leb-false (length l) mostStates t, e)

@@ -1,0 +1,71 @@
+-- `states::determinise` meets its contract. The invariant: the array holds a list from which the turns that are left lead to the states (`Underway`). The measure is
+-- how many places are left. Assumes nothing.
+use Prim.Native.Nat.{_-_}
+use native.Mathlib.Omega.{arith}
+use borrow.Author.Needs.{needs}
+use Rattle.meaning.specs.Files.{statesFor}
+use Rattle.meaning.specs.Types.{step, signature}
+use Rattle.meaning.specs.Limits.{mostStates}
+use Rattle.states.specs.Asked.{productionsAt}
+use Rattle.states.proofs.Turns.{Turning, turning, turning-holds, turn-over, turn-size, turn-rest, turn-grown, turn-on}
+use Rattle.states.proofs.determinise.Statement.{statement}
+use Rattle.states.proofs.determinise.Tie as tie
+
+abbrev Inv-loop : tie.InvT-loop
+Inv-loop file from count arities types known₀ n₀ known n =
+    Turning (step (productionsAt file from count) types) (signature arities) (statesFor arities types (productionsAt file from count)) known n
+
+abbrev μ-loop : tie.MeasureT-loop
+μ-loop file from count arities types known₀ n₀ known n = mostStates - n
+
+loop-holds : tie.Need-loop-holds Inv-loop μ-loop
+loop-holds c =
+    let a = c .before .before .args in
+    turning (a .arities .now) (a .types) (productionsAt (a .file .now) (a .from) (a .count))
+
+turn-requires : tie.Need-turn-requires Inv-loop μ-loop
+turn-requires c κs = ((turning-holds (c .loop .inv), c .before .before .before .pre .0), c .before .before .before .pre .1)
+
+enum-known-found : tie.Need-enum-known-found Inv-loop μ-loop
+enum-known-found c = search needs
+
+returns : tie.Need-returns Inv-loop μ-loop
+returns c =
+    let turned = c .before .before .before .before in
+    turn-rest (turned .before .loop .inv) (turned .turn .ensures) (c .before .before .found .given .1) (omega arith)
+
+loop-less : tie.Need-loop-less Inv-loop μ-loop
+loop-less c =
+    let turned = c .before .before .before .before .before in
+    let counts = c .before .before .before .found .given .1 in
+    let grown = turn-grown (turned .before .loop .inv) (turned .turn .ensures) counts (λ e. omega arith) in
+    let size = turn-size (turned .before .loop .inv) (turned .turn .ensures) counts in
+    omega arith
+
+loop-again : tie.Need-loop-again Inv-loop μ-loop
+loop-again c =
+    let turned = c .before .before .before .before .before in
+    turn-on (turned .before .loop .inv) (turned .turn .ensures) (c .before .before .before .found .given .1) (λ e. omega arith)
+
+enum-told : tie.Need-enum-told Inv-loop μ-loop
+enum-told c = search needs
+
+returns-2 : tie.Need-returns-2 Inv-loop μ-loop
+returns-2 c =
+    let turned = c .before .before in
+    turn-over (turned .before .loop .inv) (turned .turn .ensures) (c .enum-told .given .1)
+
+pub determinise-spec : {M : Type 1} → statement M
+determinise-spec =
+    tie.close
+    (tie.spec
+    Inv-loop
+    μ-loop
+    loop-holds
+    turn-requires
+    enum-known-found
+    returns
+    loop-less
+    loop-again
+    enum-told
+    returns-2)

@@ -1,0 +1,66 @@
+-- `states::place` meets its contract. The invariant: the place is looked for from `i` on. The measure is how many places are left. Assumes nothing.
+use Prim.Native.Nat.{_≤_, _+_, _-_}
+use mathlib.Core.Path.{_≡_, refl, sym, _∙_}
+use native.Mathlib.Omega.{arith}
+use lib.ListN.{length, drop}
+use lib.Dec.{leb}
+use borrow.Author.Tests.{le-leb, lt-leb}
+use borrow.Author.Needs.{needs}
+use Rattle.states.specs.Packed.{placeFor}
+use Rattle.states.proofs.Places.{first-here, first-next, first-none}
+use Rattle.states.proofs.place.Statement.{statement}
+use Rattle.states.proofs.place.Tie as tie
+
+abbrev Inv-loop : tie.InvT-loop
+Inv-loop states s i₀ i = (i ≤ length states) × (i + placeFor s (drop i states) ≡ placeFor s states)
+
+abbrev μ-loop : tie.MeasureT-loop
+μ-loop states s i₀ i = length states - i
+
+loop-holds : tie.Need-loop-holds Inv-loop μ-loop
+loop-holds c = search needs
+
+mul-if1 : tie.Need-mul-if1 Inv-loop μ-loop
+mul-if1 c = search needs
+
+shared-slice-read-if1 : tie.Need-shared-slice-read-if1 Inv-loop μ-loop
+shared-slice-read-if1 c = search needs
+
+returns : tie.Need-returns Inv-loop μ-loop
+returns c =
+    let a = c .before .before .before .before .args in
+    let i = c .before .before .before .loop .i in
+    sym (first-here (leb (a .s)) (placeFor (a .s)) refl (λ x xs. refl) (a .states .now) i (search needs) (le-leb (a .s) _ (c .if1 .taken))) ∙ c .before .before .before .loop .inv .1
+
+add-i : tie.Need-add-i Inv-loop μ-loop
+add-i c = search needs
+
+loop-less : tie.Need-loop-less Inv-loop μ-loop
+loop-less c = search needs
+
+loop-again : tie.Need-loop-again Inv-loop μ-loop
+loop-again c =
+    let a = c .before .before .before .before .args in
+    let i = c .before .before .before .loop .i in
+    (search needs, first-next (leb (a .s)) (placeFor (a .s)) refl (λ x xs. refl) (a .states .now) i (search needs) (lt-leb (a .s) _ (c .if1 .left)) ∙ c .before .before .before .loop .inv .1)
+
+returns-2 : tie.Need-returns-2 Inv-loop μ-loop
+returns-2 c =
+    let a = c .before .before .args in
+    let i = c .before .loop .i in
+    sym (first-none (leb (a .s)) (placeFor (a .s)) refl (λ x xs. refl) (a .states .now) i (omega arith)) ∙ c .before .loop .inv .1
+
+pub place-spec : {M : Type 1} → statement M
+place-spec =
+    tie.close
+    (tie.spec
+    Inv-loop
+    μ-loop
+    loop-holds
+    mul-if1
+    shared-slice-read-if1
+    returns
+    add-i
+    loop-less
+    loop-again
+    returns-2)

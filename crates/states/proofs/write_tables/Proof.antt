@@ -1,0 +1,76 @@
+-- `states::write_tables` meets its contract: the tables are the numbers of the sets at the buffer's front. Assumes nothing.
+use Prim.Native.Nat.{ℕ}
+use mathlib.Core.List.{List, _++_}
+use mathlib.Core.Path.{sym, ap₂, _∙_}
+use native.Mathlib.Omega.{arith}
+use lib.ListN.{drop}
+use borrow.Author.Needs.{needs}
+use Rattle.states.specs.Asked.{productionsAt}
+use Rattle.states.proofs.Filling.{Filled, small, fillable, front-fits, front-length, front-tables}
+use Rattle.states.proofs.write_tables.Statement.{statement}
+use Rattle.states.proofs.write_tables.Tie as tie
+
+-- the buffer once its places are counted
+filled :
+    (c : tie.After-cells-of)
+    → Filled
+    (productionsAt (c .before .before .before .before .before .before .before .before .args .file .now) (c .before .before .before .before .before .before .before .before .args .from) (c .before .before .before .before .before .before .before .before .args .count))
+    (c .before .before .before .before .before .before .before .before .args .types)
+    (c .before .before .before .before .before .before .before .before .args .states .now)
+    (c .before .before .before .before .before .before .before .before .args .arities .now)
+    (c .before .before .fill .last .0)
+    (c .cells-of .result)
+filled c = record { holds = c .before .before .fill .ensures; counts = c .cells-of .ensures }
+
+slice-aggregate-fill : tie.Need-slice-aggregate-fill
+slice-aggregate-fill c = search needs
+
+fill-requires : tie.Need-fill-requires
+fill-requires c κs =
+    let a = c .before .before .before .before .before .args in
+    let pre = c .before .before .before .before .before .pre in
+    ((fillable (a .arities .now) (a .types) (pre .0 .2) (a .states .now) (pre .0 .0), pre .0 .2 .bits), pre .1)
+
+cells-of-requires : tie.Need-cells-of-requires
+cells-of-requires c κs =
+    let a = c .before .before .before .before .before .before .before .args in
+    let pre = c .before .before .before .before .before .before .before .pre in
+    (pre .0 .0, omega (arith, pre .0 .2 .symbols), small (a .arities .now) (a .types) (pre .0 .2))
+
+array-share-prefix-sets : tie.Need-array-share-prefix-sets
+array-share-prefix-sets c = front-fits (filled (c .before))
+
+slice-aggregate-write-indices : tie.Need-slice-aggregate-write-indices
+slice-aggregate-write-indices c = sym (front-length (filled (c .before .before)))
+
+write-indices-requires : tie.Need-write-indices-requires
+write-indices-requires c κs =
+    let pre = c .before .before .before .before .before .before .before .before .before .before .pre in
+    let counted = c .before .before in
+    (pre .0 .0, omega (arith, front-length (filled counted), counted .cells-of .ensures, pre .0 .1))
+
+same-length : tie.Need-same-length
+same-length c = search needs
+
+returns : tie.Need-returns
+returns c =
+    let a = c .before .before .before .before .before .before .before .before .before .before .before .before .before .args in
+    let counted = c .before .before .before .before .before in
+    c .before .before .write-indices .ensures
+    ∙ ap₂
+    (λ (l : List ℕ) (n : ℕ). l ++ drop n (a .buffer .now))
+    (front-tables (filled counted))
+    (front-length (filled counted) ∙ counted .cells-of .ensures)
+
+pub write-tables-spec : {M : Type 1} → statement M
+write-tables-spec =
+    tie.close
+    (tie.spec
+    slice-aggregate-fill
+    fill-requires
+    cells-of-requires
+    array-share-prefix-sets
+    slice-aggregate-write-indices
+    write-indices-requires
+    same-length
+    returns)
