@@ -1,9 +1,10 @@
 // The fields of rule files and sheets: a tag, a length of two bytes, high byte first, and that many content bytes.
 ghost use mathlib.Core.Path.{_≡_};
 ghost use Prim.Native.Nat.{_+_, _≤_};
+ghost use lib.Dec.{T};
 ghost use lib.ListN.{length, take, drop};
 ghost use Rattle.meaning.specs.Fields.{frontOf};
-ghost use Rattle.fields.specs.Found.{foundIn};
+ghost use Rattle.fields.specs.Found.{foundIn, isWhole, contentIn, nextIn, nthIn};
 
 // What stands at a position.
 pub enum Found {
@@ -48,4 +49,40 @@ pub fn content(s: &[u8], at: usize, len: usize) -> &[u8]
     let from = at + 3;
     let to = from + len;
     &s[from..to]
+}
+
+// The content of the field at a position, as that very part of the slice; an empty part where no whole field stands.
+pub fn content_at(s: &[u8], at: usize) -> &[u8]
+    ensures { λ r. ⌜ now r ≡ contentIn (frontOf (drop at (now (s .entry)))) ⌝ }
+    ensures { λ r. ⌜ (T (isWhole (frontOf (drop at (now (s .entry))))) → (r .ptr .0 ≡ s .entry .ptr .0) × (r .ptr .1 ≡ at + 3 + s .entry .ptr .1)) ⌝ }
+{
+    match field_at(s, at) {
+        Found::Whole(_, len) => return content(s, at, len),
+        Found::Cut => return &s[..0],
+        Found::End => return &s[..0],
+    }
+}
+
+// Where the field after the one at a position starts; the position itself where no whole field stands.
+pub fn next_at(s: &[u8], at: usize) -> usize
+    ensures { λ r. ⌜ r ≡ nextIn at (frontOf (drop at (now (s .entry)))) ⌝ }
+{
+    match field_at(s, at) {
+        Found::Whole(_, len) => at + 3 + len,
+        Found::Cut => at,
+        Found::End => at,
+    }
+}
+
+// The content of field k, counted from the field at a position; an empty part where there are not so many.
+pub fn nth_content(s: &[u8], from: usize, k: usize) -> &[u8]
+    ensures { λ r. ⌜ now r ≡ nthIn k (drop from (now (s .entry))) ⌝ }
+{
+    let mut at = from;
+    let mut left = k;
+    while 0 < left {
+        at = next_at(s, at);
+        left = left - 1;
+    }
+    content_at(s, at)
 }

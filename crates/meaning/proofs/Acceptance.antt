@@ -160,7 +160,7 @@ module _ (fs : List Field) (h : WellFields fs) where
   few-types = le-trans (h .counts type) (lit≤ tt)
 
   -- what is read of each kind is well formed, and its encoding is the content
-  read-productions : (map encodeProduction (map productionOf (contents production fs)) ≡ contents production fs)
+  pub read-productions : (map encodeProduction (map productionOf (contents production fs)) ≡ contents production fs)
       × All (WellProduction (typesIn fs) (aritiesIn symbol fs)) (map productionOf (contents production fs))
   read-productions =
       map-reads encodeProduction _ productionOf (contents production fs)

@@ -1,5 +1,5 @@
 -- A file that is read whole: what is known of it are its rules, and where to find them. Assumes nothing.
-use Prim.Native.Nat.{ℕ, _+_}
+use Prim.Native.Nat.{ℕ, _+_, _<_}
 use mathlib.Core.Path.{_≡_, refl, sym, ap, ap₂, subst, _∙_}
 use mathlib.Core.Bool.{not}
 use mathlib.Core.List.{List, [], _∷_, map}
@@ -7,7 +7,7 @@ use mathlib.Core.Option.{none}
 use native.Mathlib.Omega.{arith}
 use lib.Dec.{T, ltb}
 use lib.Arith.{le→nltb}
-use lib.ListN.{length, drop}
+use lib.ListN.{length, getD, drop}
 use Rattle.meaning.specs.Lists.{All}
 use Rattle.meaning.specs.Limits.{Kind, symbol, production, predicate, clause, query, tagOf, mostFileBytes}
 use Rattle.meaning.specs.Fields.{Field, whole, cut, Front, empty, short, front, frontOf, onFront, fields}
@@ -21,10 +21,11 @@ use Rattle.meaning.proofs.Answers.{none-refused, read-accepted}
 use Rattle.meaning.proofs.ByKind.{tag-range, WellFields, fine-well, Rising}
 use Rattle.meaning.proofs.Acceptance.{arities-named}
 use Rattle.refusals.specs.declared.Known.{Known}
-use Rattle.fields.specs.Found.{contentsFrom}
+use Rattle.fields.specs.Found.{contentsFrom, nthIn}
 use Rattle.refusals.specs.Known.{Knows, before, fieldsRead}
 use Rattle.refusals.specs.Tests.{knownTypes, knownSymbols, knownPredicates, earlierIn}
 use Rattle.fields.proofs.Fronts.{front-rest}
+use Rattle.fields.proofs.Nth.{nth-of-contents}
 use Rattle.rules.proofs.Keeping.{count-of, start-of, known-types, known-symbols, known-predicates}
 use Rattle.rules.proofs.Reached.{Chain, contents-found}
 
@@ -97,6 +98,13 @@ module _ (file : List ℕ) (known : Known) (e : readAnswer file ≡ accepted) (k
       let chain = fields-chain file (fields file) 0 refl (rising-whole 1 7 (fields file) (well .rising)) in
       ap₂ (λ (n at : ℕ). contentsFrom n (drop at file)) (count-of known (fields file) knows-all (tagOf k) lt) (start-of known (fields file) knows-all (tagOf k) lt)
       ∙ contents-found file (tagOf k) 1 0 (fields file) (chain .0) (well .rising) (chain .1)
+
+  -- content i of a kind stands i fields after the kind's start
+  pub nth-earlier : (k : Kind) (i : ℕ) → i < length (contents k (fields file)) → nthIn i (drop (getD (known .starts) (tagOf k) 0) file) ≡ getD (contents k (fields file)) i []
+  nth-earlier k i h =
+      let found = earlier k in
+      nth-of-contents (getD (known .counts) (tagOf k) 0) i (drop (getD (known .starts) (tagOf k) 0) file) (subst (λ (cs : List (List ℕ)). i < length cs) (sym found) h)
+      ∙ ap (λ (cs : List (List ℕ)). getD cs i []) found
 
   -- What is known of a file that is read whole are its rules.
   pub reads : Reads file known

@@ -1,0 +1,264 @@
+// Plays the rule files of data/, each with the listing beside it, and compares: refused with 1 to 7 and where, or read.
+// Prints a line for each difference, and the counts of each folder.
+use libc::STDOUT_FILENO;
+use refusals::Verdict;
+ghost use Prim.Native.Nat.{_≤_, _<_};
+ghost use mathlib.Core.Path.{_≡_};
+ghost use lib.ListN.{length};
+ghost use Rattle.meaning.specs.Refusals.{accepted, refused};
+ghost use Rattle.refusals.specs.Verdict.{answerOf};
+ghost use Rattle.vectors.specs.Expected.{lineIn, isDigit, numberFrom, isRefusal, expectedOf, answered, sameAnswer, isExpected};
+ghost use Rattle.vectors.specs.Paths.{numbered};
+
+// A refusal's number and place; 0 at 0 where nothing is refused.
+pub struct Answer {
+    pub number: usize,
+    pub place: usize,
+}
+
+// What some bytes say in decimal.
+pub enum Number {
+    Is(usize),
+    No,
+}
+
+// How a file compares with its listing.
+pub enum Outcome {
+    // There is no such file.
+    Missing,
+    Same,
+    Different,
+}
+
+fn wide(b: u8) -> usize
+    ensures { λ r. ⌜ r ≡ b ⌝ }
+{
+    b as usize
+}
+
+fn no_refusal() -> Answer
+    ensures { λ r. ⌜ answered r ≡ accepted ⌝ }
+{
+    Answer {
+        number: 0,
+        place: 0,
+    }
+}
+
+fn refusal(number: usize, place: usize) -> Answer
+    ensures { λ r. ⌜ answered r ≡ refused number place ⌝ }
+{
+    Answer { number, place }
+}
+
+// The first line of a listing, without its end.
+fn first_line(s: &[u8]) -> &[u8]
+    ensures { λ r. ⌜ now r ≡ lineIn (now (s .entry)) ⌝ }
+{
+    let mut i = 0;
+    while i < s.len() {
+        if s[i] == 10 {
+            return &s[..i];
+        }
+        i += 1;
+    }
+    &s[..i]
+}
+
+fn is_digit(b: u8) -> bool
+    ensures { λ r. ⌜ r ≡ isDigit b ⌝ }
+{
+    (48 <= b) & (b <= 57)
+}
+
+// The number that some bytes write in decimal.
+fn number_of(s: &[u8]) -> Number
+    ensures { λ r. ⌜ r ≡ numberFrom 0 (now (s .entry)) ⌝ }
+{
+    let mut n: usize = 0;
+    let mut i = 0;
+    while i < s.len() {
+        if !is_digit(s[i]) {
+            return Number::No;
+        }
+        if 10000 <= n {
+            return Number::No;
+        }
+        n = n * 10 + wide(s[i] - 48);
+        i += 1;
+    }
+    Number::Is(n)
+}
+
+// Whether a line begins as a refusal with 1 to 7 does, and goes on.
+fn is_refusal(line: &[u8]) -> bool
+    ensures { λ r. ⌜ r ≡ isRefusal (now (line .entry)) ⌝ }
+{
+    if line.len() <= 13 {
+        return false;
+    }
+    if !names::same(&line[..8], b"refused ") {
+        return false;
+    }
+    if line[8] < 49 {
+        return false;
+    }
+    if 55 < line[8] {
+        return false;
+    }
+    names::same(&line[9..13], b" at ")
+}
+
+// What a line expects: a refusal with 1 to 7, or that the file is read.
+fn expected_of(line: &[u8]) -> Answer
+    ensures { λ r. ⌜ answered r ≡ expectedOf (now (line .entry)) ⌝ }
+{
+    if !is_refusal(line) {
+        return no_refusal();
+    }
+    let number = wide(line[8] - 48);
+    match number_of(&line[13..]) {
+        Number::Is(place) => refusal(number, place),
+        Number::No => no_refusal(),
+    }
+}
+
+// The number and place of a verdict.
+fn answer_of(v: Verdict) -> Answer
+    ensures { λ r. ⌜ answered r ≡ answerOf v ⌝ }
+{
+    match v {
+        Verdict::Accepted => no_refusal(),
+        Verdict::TooLong => refusal(1, 0),
+        Verdict::Cut(k) => refusal(2, k),
+        Verdict::WrongTag(k) => refusal(3, k),
+        Verdict::Malformed(k) => refusal(4, k),
+        Verdict::NameTaken(k) => refusal(5, k),
+        Verdict::TooMany(k) => refusal(6, k),
+        Verdict::NoConstant(k) => refusal(7, k),
+    }
+}
+
+fn is_same(a: Answer, b: Answer) -> bool
+    ensures { λ r. ⌜ r ≡ sameAnswer (answered a) (answered b) ⌝ }
+{
+    (a.number == b.number) & (a.place == b.place)
+}
+
+fn print(text: &[u8]) {
+    io::write_all(STDOUT_FILENO, text);
+}
+
+fn print_answer(a: Answer) {
+    if a.number == 0 {
+        print(b"read");
+        return;
+    }
+    print(b"refused ");
+    io::print_decimal(STDOUT_FILENO, a.number as u64);
+    print(b" at ");
+    io::print_decimal(STDOUT_FILENO, a.place as u64);
+}
+
+fn print_difference(path: &[u8], wanted: Answer, given: Answer) {
+    print(path);
+    print(b": expected ");
+    print_answer(wanted);
+    print(b", answered ");
+    print_answer(given);
+    print(b"\n");
+}
+
+fn print_counts(folder: &[u8], files: usize, differences: usize) {
+    print(folder);
+    print(b": ");
+    io::print_decimal(STDOUT_FILENO, files as u64);
+    print(b" files, ");
+    io::print_decimal(STDOUT_FILENO, differences as u64);
+    print(b" differences\n");
+}
+
+// Whether a rule file is answered as its listing expects; if not, the difference is printed.
+fn compare(path: &[u8], file: &[u8], listing: &[u8]) -> bool
+    ensures { λ r. ⌜ r ≡ isExpected (now (file .entry)) (now (listing .entry)) ⌝ }
+{
+    let wanted = expected_of(first_line(listing));
+    let reading = rules::read(file);
+    let verdict = reading.verdict;
+    let given = answer_of(verdict);
+    if is_same(given, wanted) {
+        return true;
+    }
+    print_difference(path, wanted, given);
+    false
+}
+
+// A rule file and its listing, by their paths. Of a longer file than the buffer holds the start is refused as the whole is, and of a listing
+// the first line is enough.
+fn play_file(rules: &[u8], listing: &[u8]) -> Outcome {
+    let fd = os::open_read(rules);
+    if fd < 0 {
+        return Outcome::Missing;
+    }
+    let mut file = io::large_buffer();
+    let n = io::read_full(fd, &mut file);
+    libc::close(fd);
+    let beside = os::open_read(listing);
+    if beside < 0 {
+        print(listing);
+        print(b": missing\n");
+        return Outcome::Different;
+    }
+    let mut text = io::buffer();
+    let m = io::read_full(beside, &mut text);
+    libc::close(beside);
+    if compare(rules, &file[..n], &text[..m]) {
+        return Outcome::Same;
+    }
+    Outcome::Different
+}
+
+// The path of file k, by its three digits, which stand after a folder of four letters.
+fn put_number(path: &mut [u8], k: usize)
+    requires { ⌜ (8 ≤ length (now path)) × (k < 1000) ⌝ }
+    ensures { λ _. ⌜ now (path .exit) ≡ numbered (now (path .entry)) k ⌝ }
+{
+    path[5] = (48 + k / 100) as u8;
+    path[6] = (48 + k / 10 % 10) as u8;
+    path[7] = (48 + k % 10) as u8;
+}
+
+// The files of a folder, from 000 to the first that is missing.
+fn play(folder: &[u8], rules: &mut [u8], listing: &mut [u8])
+    requires { ⌜ (8 ≤ length (now rules)) × (8 ≤ length (now listing)) ⌝ }
+{
+    let mut files: usize = 0;
+    let mut differences: usize = 0;
+    while files < 1000 {
+        put_number(rules, files);
+        put_number(listing, files);
+        match play_file(rules, listing) {
+            Outcome::Missing => {
+                print_counts(folder, files, differences);
+                return;
+            }
+            Outcome::Same => {
+                files += 1;
+            }
+            Outcome::Different => {
+                files += 1;
+                differences += 1;
+            }
+        }
+    }
+    print_counts(folder, files, differences);
+}
+
+fn main() {
+    let mut base_rules = *b"base/000.rules";
+    let mut base_listing = *b"base/000.listing";
+    play(b"base", &mut base_rules, &mut base_listing);
+    let mut more_rules = *b"more/000.rules";
+    let mut more_listing = *b"more/000.listing";
+    play(b"more", &mut more_rules, &mut more_listing);
+}
