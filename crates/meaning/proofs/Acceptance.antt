@@ -130,7 +130,7 @@ module _ {A B : Type 0} where
   map-inverse f g e [] = refl
   map-inverse f g e (x ∷ xs) = cons-same (e x) (map-inverse f g e xs)
 
-  All-over : (P : B → Type 0) (f : A → B) (xs : List A) → All (λ (x : A). P (f x)) xs → All P (map f xs)
+  pub All-over : (P : B → Type 0) (f : A → B) (xs : List A) → All (λ (x : A). P (f x)) xs → All P (map f xs)
   All-over P f [] h = tt
   All-over P f (x ∷ xs) h = (h .0, All-over P f xs (h .1))
 

@@ -1,0 +1,68 @@
+-- The answer to a file by the answer to reading it and the number of its states. Assumes nothing.
+use Prim.Native.Nat.{ℕ, _≤_, _<_}
+use mathlib.Core.Path.{_≡_, refl, sym, ap, _∙_}
+use mathlib.Core.Logic.{_≢_}
+use mathlib.Core.Bool.{cond}
+use mathlib.Core.List.{List, []}
+use native.Mathlib.Omega.{arith}
+use lib.Dec.{ltb}
+use lib.ListN.{length}
+use borrow.Author.Tests.{ne-eqb, lt-ltb, le-ltb}
+use Rattle.meaning.specs.Limits.{mostStates}
+use Rattle.meaning.specs.Fields.{fields}
+use Rattle.meaning.specs.Refusals.{Answer, refused, accepted, ok}
+use Rattle.meaning.specs.Files.{readAnswer, fileAnswer}
+use Rattle.meaning.specs.Calls.{statesOf, symbolArities}
+use Rattle.meaning.proofs.Lists.{T-of, T-not-of}
+use Rattle.meaning.proofs.Answers.{then-next, then-first, if-yes, if-no, read-accepted, accepted-exact}
+use Rattle.refusals.specs.declared.Verdict.{Verdict}
+use Rattle.refusals.specs.declared.Verdict.the-variants.{Accepted, TooLong, Cut, WrongTag, Malformed, NameTaken, TooMany, NoConstant}
+use Rattle.refusals.specs.Verdict.{answerOf}
+use Rattle.states.specs.Packed.{packed}
+use Rattle.accept.specs.Accepted.{statesGiven}
+
+-- a verdict without a number accepts
+pub accepts : (v : Verdict) → answerOf v .number ≡ 0 → answerOf v ≡ accepted
+accepts Accepted e = refl
+accepts TooLong e = absurd (omega arith)
+accepts (Cut k) e = absurd (omega arith)
+accepts (WrongTag k) e = absurd (omega arith)
+accepts (Malformed k) e = absurd (omega arith)
+accepts (NameTaken k) e = absurd (omega arith)
+accepts (TooMany k) e = absurd (omega arith)
+accepts (NoConstant k) e = absurd (omega arith)
+
+module _ (file : List ℕ) where
+  -- refused with 1 to 7
+  pub refused-answer : readAnswer file .number ≢ 0 → readAnswer file ≡ fileAnswer file
+  unfolding fileAnswer
+  refused-answer h = sym (then-first (readAnswer file) _ h)
+
+  pub refused-states : readAnswer file .number ≢ 0 → packed [] ≡ statesGiven file
+  unfolding statesGiven
+  refused-states h = sym (ap (λ b. cond b (packed (statesOf file)) (packed [])) (ne-eqb (readAnswer file .number) 0 h))
+
+  -- read
+  pub read-states : readAnswer file ≡ accepted → packed (statesOf file) ≡ statesGiven file
+  unfolding statesGiven
+  read-states e = sym (ap (λ (a : Answer). cond (ok a) (packed (statesOf file)) (packed [])) e)
+
+  pub few-answer : readAnswer file ≡ accepted → length (statesOf file) ≤ mostStates → fileAnswer file ≡ accepted
+  unfolding fileAnswer statesOf symbolArities
+  few-answer e h =
+      then-next (readAnswer file) _ (ap (λ (a : Answer). a .number) e)
+      ∙ if-no (ltb mostStates (length (statesOf file))) 8 (length (fields file)) (T-not-of _ (le-ltb mostStates (length (statesOf file)) h))
+
+  pub many-answer : readAnswer file ≡ accepted → mostStates < length (statesOf file) → fileAnswer file ≡ refused 8 (length (fields file))
+  unfolding fileAnswer statesOf symbolArities
+  many-answer e h =
+      then-next (readAnswer file) _ (ap (λ (a : Answer). a .number) e)
+      ∙ if-yes (ltb mostStates (length (statesOf file))) 8 (length (fields file)) (T-of _ (lt-ltb mostStates (length (statesOf file)) h))
+
+  -- an accepted file is read, and its states are few
+  pub accepted-read : fileAnswer file ≡ accepted → readAnswer file ≡ accepted
+  accepted-read e = let w = accepted-exact file .0 e in read-accepted file .1 (w .0, w .1)
+
+  pub accepted-few : fileAnswer file ≡ accepted → length (statesOf file) ≤ mostStates
+  unfolding statesOf symbolArities
+  accepted-few e = accepted-exact file .0 e .2

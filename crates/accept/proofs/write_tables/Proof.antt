@@ -1,0 +1,97 @@
+-- `accept::write_tables` meets its contract: what is known of the file is what its tables ask for. Assumes nothing.
+use Prim.Native.Nat.{ℕ, _≤_}
+use mathlib.Core.Path.{sym, ap, ap₂, subst, _∙_}
+use mathlib.Core.List.{List, _++_}
+use native.Mathlib.Omega.{arith}
+use lib.ListN.{length, length-take, getD, take, drop}
+use Rattle.meaning.specs.Cells.{cells}
+use Rattle.meaning.specs.Types.{step}
+use Rattle.meaning.specs.States.{tables}
+use Rattle.automaton.specs.Marking.{AreProductions}
+use Rattle.states.specs.Asked.{Limited, productionsAt}
+use Rattle.refusals.specs.Tests.{earlierIn, knownSymbols}
+use Rattle.meaning.specs.Limits.{mostStates}
+use Rattle.accept.proofs.Ready.{symbols-fit, limited, productions, tables-are, tables-length}
+use Rattle.accept.proofs.Answering.{accepted-read, accepted-few}
+use borrow.Author.Needs.{needs}
+use Rattle.accept.proofs.write_tables.Statement.{statement}
+use Rattle.accept.proofs.write_tables.Tie as tie
+
+array-read-wide : tie.Need-array-read-wide
+array-read-wide c = search needs
+
+wide-requires : tie.Need-wide-requires
+wide-requires c κs = search needs
+
+array-share-prefix-symbols : tie.Need-array-share-prefix-symbols
+array-share-prefix-symbols c =
+    let x = c .before .before .before .before .before .before .before .before in
+    let file = x .args .file .now in
+    omega (arith, c .before .wide .ensures .0, symbols-fit file (x .args .known) (accepted-read file (x .pre .0 .0)) (x .pre .0 .1))
+
+slice-aggregate-write-tables : tie.Need-slice-aggregate-write-tables
+slice-aggregate-write-tables c =
+    let x = c .before .before .before .before .before .before .before .before .before in
+    let file = x .args .file .now in
+    omega (
+      arith,
+      c .before .before .wide .ensures .0,
+      length-take (c .before .before .wide .result) (x .args .known .symbols),
+      symbols-fit file (x .args .known) (accepted-read file (x .pre .0 .0)) (x .pre .0 .1),
+    )
+
+array-read-write-tables : tie.Need-array-read-write-tables
+array-read-write-tables c = search needs
+
+array-read-write-tables-2 : tie.Need-array-read-write-tables-2
+array-read-write-tables-2 c = search needs
+
+array-read-write-tables-3 : tie.Need-array-read-write-tables-3
+array-read-write-tables-3 c = search needs
+
+write-tables-requires : tie.Need-write-tables-requires
+write-tables-requires c κs =
+    let x = c .before .before .before .before .before .before .before .before .before in
+    let file = x .args .file .now in
+    let known = x .args .known in
+    let e = accepted-read file (x .pre .0 .0) in
+    let few : length (x .args .states .now) ≤ mostStates = subst (λ (l : List ℕ). length l ≤ mostStates) (sym (x .pre .1 .0)) (accepted-few file (x .pre .0 .0)) in
+    let room : cells (length (x .args .states .now)) (knownSymbols known) ≤ length (x .args .buffer .now) =
+    subst (λ (k : ℕ). k ≤ length (x .args .buffer .now))
+    (tables-length file known e (x .pre .0 .1) ∙ ap (λ (l : List ℕ). cells (length l) (knownSymbols known)) (sym (x .pre .1 .0)))
+    (x .pre .1 .1) in
+    subst
+    (λ (n : ℕ).
+    ((length (x .args .states .now) ≤ mostStates) × (cells (length (x .args .states .now)) (take n (known .symbols)) ≤ length (x .args .buffer .now)) × Limited (take n (known .symbols)) (getD (known .counts) 2 0))
+    × AreProductions (getD (known .counts) 2 0) (take n (known .symbols)) (getD (known .counts) 3 0) (earlierIn file known 3))
+    (sym (c .before .before .wide .ensures .0))
+    ((few, room, limited file known e (x .pre .0 .1)), productions file known e (x .pre .0 .1))
+
+same-length : tie.Need-same-length
+same-length c = search needs
+
+returns : tie.Need-returns
+returns c =
+    let x = c .before .before .before .before .before .before .before .before .before .before .before .before in
+    let file = x .args .file .now in
+    let known = x .args .known in
+    let e = accepted-read file (x .pre .0 .0) in
+    let st = step (productionsAt file (getD (known .starts) 3 0) (getD (known .counts) 3 0)) (getD (known .counts) 2 0) in
+    c .before .before .write-tables .ensures
+    ∙ ap₂ (λ (n : ℕ) (l : List ℕ). tables st l (take n (known .symbols)) ++ drop (cells (length l) (take n (known .symbols))) (x .args .buffer .now)) (c .before .before .before .before .before .wide .ensures .0) (x .pre .1 .0)
+    ∙ ap₂ (λ (t : List ℕ) (k : ℕ). t ++ drop k (x .args .buffer .now)) (tables-are file known e (x .pre .0 .1)) (sym (tables-length file known e (x .pre .0 .1)))
+
+pub write-tables-spec : {M : Type 1} → statement M
+write-tables-spec =
+    tie.close
+    (tie.spec
+    array-read-wide
+    wide-requires
+    array-share-prefix-symbols
+    slice-aggregate-write-tables
+    array-read-write-tables
+    array-read-write-tables-2
+    array-read-write-tables-3
+    write-tables-requires
+    same-length
+    returns)

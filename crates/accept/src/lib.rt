@@ -1,0 +1,152 @@
+// A rule file accepted, or refused with 1 to 8: read, and its states found. What every public call starts with.
+use refusals::Known;
+use refusals::Verdict;
+use states::Count;
+use states::States;
+ghost use mathlib.Core.Path.{_≡_};
+ghost use mathlib.Core.List.{[]};
+ghost use Prim.Native.Nat.{_≤_, _<_};
+ghost use lib.ListN.{length};
+ghost use Rattle.meaning.specs.Refusals.{accepted, refused};
+ghost use Rattle.meaning.specs.Files.{readAnswer, fileAnswer};
+ghost use Rattle.meaning.specs.Calls.{statesOf, tablesOf, written};
+ghost use Rattle.refusals.specs.Known.{Knows, fieldsRead};
+ghost use Rattle.refusals.specs.Verdict.{answerOf};
+ghost use Rattle.states.specs.Packed.{packed};
+ghost use Rattle.accept.specs.Accepted.{answered, fieldsKnown, statesGiven};
+
+// A number with its place: 0 at 0 where nothing is refused.
+pub struct Answer {
+    pub number: usize,
+    pub place: usize,
+}
+
+// The answer to a file, what was read of it, and its states: none if it is refused with 1 to 7.
+pub struct Acceptance {
+    pub answer: Answer,
+    pub known: Known,
+    pub states: States,
+}
+
+fn wide(b: u8) -> usize
+    ensures { λ r. ⌜ (r ≡ b) × (r < 256) ⌝ }
+{
+    b as usize
+}
+
+// Nothing is refused.
+pub fn no_refusal() -> Answer
+    ensures { λ r. ⌜ answered r ≡ accepted ⌝ }
+{
+    Answer {
+        number: 0,
+        place: 0,
+    }
+}
+
+pub fn refusal(number: usize, place: usize) -> Answer
+    ensures { λ r. ⌜ answered r ≡ refused number place ⌝ }
+{
+    Answer { number, place }
+}
+
+// The number and place of a verdict.
+fn answer_of(v: Verdict) -> Answer
+    ensures { λ r. ⌜ answered r ≡ answerOf v ⌝ }
+{
+    match v {
+        Verdict::Accepted => no_refusal(),
+        Verdict::TooLong => refusal(1, 0),
+        Verdict::Cut(k) => refusal(2, k),
+        Verdict::WrongTag(k) => refusal(3, k),
+        Verdict::Malformed(k) => refusal(4, k),
+        Verdict::NameTaken(k) => refusal(5, k),
+        Verdict::TooMany(k) => refusal(6, k),
+        Verdict::NoConstant(k) => refusal(7, k),
+    }
+}
+
+// How many fields were read.
+fn field_count(known: Known) -> usize
+    ensures { λ r. ⌜ r ≡ fieldsKnown known ⌝ }
+{
+    let n = known.counts;
+    wide(n[1]) + wide(n[2]) + wide(n[3]) + wide(n[4]) + wide(n[5]) + wide(n[6])
+}
+
+fn no_states() -> States
+    ensures { λ r. ⌜ r ≡ packed [] ⌝ }
+{
+    States {
+        count: Count::Known(0),
+        sets: [0u16; 16],
+    }
+}
+
+// The states of a file that was read.
+fn states_of(file: &[u8], known: Known) -> States
+    requires { ⌜ (readAnswer (now file) ≡ accepted) × Knows known (fieldsRead (now file)) ⌝ }
+    ensures { λ r. ⌜ r ≡ packed (statesOf (now (file .entry))) ⌝ }
+{
+    let counts = known.counts;
+    let starts = known.starts;
+    let symbols = known.symbols;
+    let n = wide(counts[1]);
+    states::determinise(file, starts[3], counts[3], &symbols[..n], counts[2])
+}
+
+// The answer to a file, with what was read of it and its states.
+pub fn accept(file: &[u8]) -> Acceptance
+    ensures { λ r. ⌜ (answered (r .answer) ≡ fileAnswer (now (file .entry))) × Knows (r .known) (fieldsRead (now (file .entry))) × (r .states ≡ statesGiven (now (file .entry))) ⌝ }
+{
+    let reading = rules::read(file);
+    let known = reading.known;
+    let verdict = reading.verdict;
+    let answer = answer_of(verdict);
+    if answer.number != 0 {
+        let states = no_states();
+        return Acceptance {
+            answer,
+            known,
+            states,
+        };
+    }
+    let states = states_of(file, known);
+    let count = states.count;
+    match count {
+        Count::Known(_) => Acceptance {
+            answer,
+            known,
+            states,
+        },
+        Count::TooMany => {
+            let answer = refusal(8, field_count(known));
+            Acceptance {
+                answer,
+                known,
+                states,
+            }
+        }
+    }
+}
+
+// The tables of a file that was accepted, written to the front of a buffer.
+pub fn write_tables(buffer: &mut [u8], file: &[u8], known: Known, states: &[u16])
+    requires { ⌜ (fileAnswer (now file) ≡ accepted) × Knows known (fieldsRead (now file)) ⌝ }
+    requires { ⌜ (now states ≡ statesOf (now file)) × (length (tablesOf (now file)) ≤ length (now buffer)) ⌝ }
+    ensures { λ r. ⌜ now (buffer .exit) ≡ written (tablesOf (now (file .entry))) (now (buffer .entry)) ⌝ }
+{
+    let counts = known.counts;
+    let starts = known.starts;
+    let symbols = known.symbols;
+    let n = wide(counts[1]);
+    states::write_tables(
+        buffer,
+        states,
+        &symbols[..n],
+        counts[2],
+        file,
+        starts[3],
+        counts[3],
+    );
+}
