@@ -1,4 +1,4 @@
--- What a listing expects of reading its rule file: `refused N at K` in its first line, with N from 1 to 7, or that the file is read.
+-- What a listing expects of its rule file: `refused N at K` in its first line, with N from 1 to 8, or that the file is accepted.
 use Prim.Native.Nat.{ℕ, _+_, _*_, _-_}
 use mathlib.Core.Bool.{Bool, cond, _&&_}
 use mathlib.Core.List.{List, [], _∷_}
@@ -6,8 +6,7 @@ use lib.Dec.{eqb, leb, ltb}
 use lib.ListN.{length, getD, take, drop}
 use Rattle.meaning.specs.Lists.{same}
 use Rattle.meaning.specs.Refusals.{refused, accepted, Answer as Answered}
-use Rattle.meaning.specs.Files.{readAnswer}
-use Rattle.vectors.specs.declared.Answer.{Answer}
+use Rattle.meaning.specs.Files.{fileAnswer}
 use Rattle.vectors.specs.declared.Number.{Number}
 use Rattle.vectors.specs.declared.Number.the-variants.{Is, No}
 
@@ -31,10 +30,10 @@ refusedWord = 114 ∷ 101 ∷ 102 ∷ 117 ∷ 115 ∷ 101 ∷ 100 ∷ 32 ∷ []
 abbrev pub atWord : List ℕ
 atWord = 32 ∷ 97 ∷ 116 ∷ 32 ∷ []
 
--- a line `refused N at ..`, with a digit from 1 to 7 for N and something after it
+-- a line `refused N at ..`, with a digit from 1 to 8 for N and something after it
 abbrev pub isRefusal : List ℕ → Bool
 isRefusal line =
-    ltb 13 (length line) && same (take 8 line) refusedWord && leb 49 (getD line 8 0) && leb (getD line 8 0) 55 && same (take 4 (drop 9 line)) atWord
+    ltb 13 (length line) && same (take 8 line) refusedWord && leb 49 (getD line 8 0) && leb (getD line 8 0) 56 && same (take 4 (drop 9 line)) atWord
 
 abbrev pub refusedAt : ℕ → Number → Answered
 refusedAt n No = accepted
@@ -43,13 +42,9 @@ refusedAt n (Is k) = refused n k
 abbrev pub expectedOf : List ℕ → Answered
 expectedOf line = cond (isRefusal line) (refusedAt (getD line 8 0 - 48) (numberFrom 0 (drop 13 line))) accepted
 
--- an answer of this crate
-abbrev pub answered : Answer → Answered
-answered a = refused (a .number) (a .place)
-
 abbrev pub sameAnswer : Answered → Answered → Bool
 sameAnswer a b = eqb (a .number) (b .number) && eqb (a .place) (b .place)
 
 -- a rule file is answered as its listing expects
 unfoldable pub isExpected : List ℕ → List ℕ → Bool
-isExpected file listing = sameAnswer (readAnswer file) (expectedOf (lineIn listing))
+isExpected file listing = sameAnswer (fileAnswer file) (expectedOf (lineIn listing))

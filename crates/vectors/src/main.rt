@@ -1,20 +1,20 @@
-// Plays the rule files of data/, each with the listing beside it, and compares: refused with 1 to 7 and where, or read.
+// Plays the rule files of data/, each with the listing beside it, and compares: refused with 1 to 8 and where, or accepted; and of the folder
+// sets, the states and the tables.
 // Prints a line for each difference, and the counts of each folder.
+use accept::Answer;
 use libc::STDOUT_FILENO;
-use refusals::Verdict;
-ghost use Prim.Native.Nat.{_≤_, _<_};
+use refusals::Known;
+use states::Count;
+ghost use Prim.Native.Nat.{_*_, _≤_, _<_, _-_};
 ghost use mathlib.Core.Path.{_≡_};
-ghost use lib.ListN.{length};
+ghost use lib.ListN.{length, take};
 ghost use Rattle.meaning.specs.Refusals.{accepted, refused};
-ghost use Rattle.refusals.specs.Verdict.{answerOf};
-ghost use Rattle.vectors.specs.Expected.{lineIn, isDigit, numberFrom, isRefusal, expectedOf, answered, sameAnswer, isExpected};
+ghost use Rattle.meaning.specs.Files.{fileAnswer};
+ghost use Rattle.meaning.specs.Calls.{statesOf};
+ghost use Rattle.refusals.specs.Known.{Knows, fieldsRead};
+ghost use Rattle.accept.specs.Accepted.{answered};
+ghost use Rattle.vectors.specs.Expected.{lineIn, isDigit, numberFrom, isRefusal, expectedOf, sameAnswer, isExpected};
 ghost use Rattle.vectors.specs.Paths.{numbered};
-
-// A refusal's number and place; 0 at 0 where nothing is refused.
-pub struct Answer {
-    pub number: usize,
-    pub place: usize,
-}
 
 // What some bytes say in decimal.
 pub enum Number {
@@ -34,21 +34,6 @@ fn wide(b: u8) -> usize
     ensures { λ r. ⌜ r ≡ b ⌝ }
 {
     b as usize
-}
-
-fn no_refusal() -> Answer
-    ensures { λ r. ⌜ answered r ≡ accepted ⌝ }
-{
-    Answer {
-        number: 0,
-        place: 0,
-    }
-}
-
-fn refusal(number: usize, place: usize) -> Answer
-    ensures { λ r. ⌜ answered r ≡ refused number place ⌝ }
-{
-    Answer { number, place }
 }
 
 // The first line of a listing, without its end.
@@ -90,7 +75,7 @@ fn number_of(s: &[u8]) -> Number
     Number::Is(n)
 }
 
-// Whether a line begins as a refusal with 1 to 7 does, and goes on.
+// Whether a line begins as a refusal with 1 to 8 does, and goes on.
 fn is_refusal(line: &[u8]) -> bool
     ensures { λ r. ⌜ r ≡ isRefusal (now (line .entry)) ⌝ }
 {
@@ -103,39 +88,23 @@ fn is_refusal(line: &[u8]) -> bool
     if line[8] < 49 {
         return false;
     }
-    if 55 < line[8] {
+    if 56 < line[8] {
         return false;
     }
     names::same(&line[9..13], b" at ")
 }
 
-// What a line expects: a refusal with 1 to 7, or that the file is read.
+// What a line expects: a refusal with 1 to 8, or that the file is accepted.
 fn expected_of(line: &[u8]) -> Answer
     ensures { λ r. ⌜ answered r ≡ expectedOf (now (line .entry)) ⌝ }
 {
     if !is_refusal(line) {
-        return no_refusal();
+        return accept::no_refusal();
     }
     let number = wide(line[8] - 48);
     match number_of(&line[13..]) {
-        Number::Is(place) => refusal(number, place),
-        Number::No => no_refusal(),
-    }
-}
-
-// The number and place of a verdict.
-fn answer_of(v: Verdict) -> Answer
-    ensures { λ r. ⌜ answered r ≡ answerOf v ⌝ }
-{
-    match v {
-        Verdict::Accepted => no_refusal(),
-        Verdict::TooLong => refusal(1, 0),
-        Verdict::Cut(k) => refusal(2, k),
-        Verdict::WrongTag(k) => refusal(3, k),
-        Verdict::Malformed(k) => refusal(4, k),
-        Verdict::NameTaken(k) => refusal(5, k),
-        Verdict::TooMany(k) => refusal(6, k),
-        Verdict::NoConstant(k) => refusal(7, k),
+        Number::Is(place) => accept::refusal(number, place),
+        Number::No => accept::no_refusal(),
     }
 }
 
@@ -151,7 +120,7 @@ fn print(text: &[u8]) {
 
 fn print_answer(a: Answer) {
     if a.number == 0 {
-        print(b"read");
+        print(b"accepted");
         return;
     }
     print(b"refused ");
@@ -183,9 +152,8 @@ fn compare(path: &[u8], file: &[u8], listing: &[u8]) -> bool
     ensures { λ r. ⌜ r ≡ isExpected (now (file .entry)) (now (listing .entry)) ⌝ }
 {
     let wanted = expected_of(first_line(listing));
-    let reading = rules::read(file);
-    let verdict = reading.verdict;
-    let given = answer_of(verdict);
+    let accepted = accept::accept(file);
+    let given = accepted.answer;
     if is_same(given, wanted) {
         return true;
     }
@@ -193,9 +161,80 @@ fn compare(path: &[u8], file: &[u8], listing: &[u8]) -> bool
     false
 }
 
+fn wide_set(s: u16) -> usize
+    ensures { λ r. ⌜ r ≡ s ⌝ }
+{
+    s as usize
+}
+
+// Whether some bytes are the states, two bytes each, high byte first.
+fn are_states(states: &[u16], bytes: &[u8]) -> bool
+    requires { ⌜ length (now bytes) ≡ 2 * length (now states) ⌝ }
+{
+    let mut i = 0;
+    while i < states.len() {
+        let state = wide_set(states[i]);
+        if wide(bytes[2 * i]) != state / 256 {
+            return false;
+        }
+        if wide(bytes[2 * i + 1]) != state % 256 {
+            return false;
+        }
+        i += 1;
+    }
+    true
+}
+
+// Whether some bytes are the states of a file and then its tables. No cell is 255, so that no cell more is written than is expected.
+fn are_tables(file: &[u8], known: Known, sets: [u16; 16], m: usize, expected: &[u8]) -> bool
+    requires { ⌜ (fileAnswer (now file) ≡ accepted) × Knows known (fieldsRead (now file)) × (take m sets ≡ statesOf (now file)) × (m ≤ 16) ⌝ }
+{
+    let states = sets;
+    let mut tables = [255u8; 6144];
+    accept::write_tables(&mut tables, file, known, &states[..m]);
+    let from = 2 * m;
+    if expected.len() < from {
+        return false;
+    }
+    let size = expected.len() - from;
+    if 6143 < size {
+        return false;
+    }
+    if tables[size] != 255 {
+        return false;
+    }
+    if !are_states(&states[..m], &expected[..from]) {
+        return false;
+    }
+    names::same(&tables[..size], &expected[from..])
+}
+
+// Whether a rule file is accepted, with the states and tables expected; if not, that is printed.
+fn compare_states(path: &[u8], file: &[u8], expected: &[u8]) -> bool {
+    let accepted = accept::accept(file);
+    let answer = accepted.answer;
+    let known = accepted.known;
+    let states = accepted.states;
+    if is_same(answer, accept::no_refusal()) {
+        let count = states.count;
+        match count {
+            Count::Known(m) => {
+                let sets = states.sets;
+                if are_tables(file, known, sets, m, expected) {
+                    return true;
+                }
+            }
+            Count::TooMany => {}
+        }
+    }
+    print(path);
+    print(b": other states or tables\n");
+    false
+}
+
 // A rule file and its listing, by their paths. Of a longer file than the buffer holds the start is refused as the whole is, and of a listing
 // the first line is enough.
-fn play_file(rules: &[u8], listing: &[u8]) -> Outcome {
+fn play_file(rules: &[u8], listing: &[u8], of_states: bool) -> Outcome {
     let fd = os::open_read(rules);
     if fd < 0 {
         return Outcome::Missing;
@@ -212,6 +251,12 @@ fn play_file(rules: &[u8], listing: &[u8]) -> Outcome {
     let mut text = io::buffer();
     let m = io::read_full(beside, &mut text);
     libc::close(beside);
+    if of_states {
+        if compare_states(rules, &file[..n], &text[..m]) {
+            return Outcome::Same;
+        }
+        return Outcome::Different;
+    }
     if compare(rules, &file[..n], &text[..m]) {
         return Outcome::Same;
     }
@@ -229,7 +274,7 @@ fn put_number(path: &mut [u8], k: usize)
 }
 
 // The files of a folder, from 000 to the first that is missing.
-fn play(folder: &[u8], rules: &mut [u8], listing: &mut [u8])
+fn play(folder: &[u8], rules: &mut [u8], listing: &mut [u8], of_states: bool)
     requires { ⌜ (8 ≤ length (now rules)) × (8 ≤ length (now listing)) ⌝ }
 {
     let mut files: usize = 0;
@@ -237,7 +282,7 @@ fn play(folder: &[u8], rules: &mut [u8], listing: &mut [u8])
     while files < 1000 {
         put_number(rules, files);
         put_number(listing, files);
-        match play_file(rules, listing) {
+        match play_file(rules, listing, of_states) {
             Outcome::Missing => {
                 print_counts(folder, files, differences);
                 return;
@@ -257,8 +302,11 @@ fn play(folder: &[u8], rules: &mut [u8], listing: &mut [u8])
 fn main() {
     let mut base_rules = *b"base/000.rules";
     let mut base_listing = *b"base/000.listing";
-    play(b"base", &mut base_rules, &mut base_listing);
+    play(b"base", &mut base_rules, &mut base_listing, false);
     let mut more_rules = *b"more/000.rules";
     let mut more_listing = *b"more/000.listing";
-    play(b"more", &mut more_rules, &mut more_listing);
+    play(b"more", &mut more_rules, &mut more_listing, false);
+    let mut sets_rules = *b"sets/000.rules";
+    let mut sets_states = *b"sets/000.states";
+    play(b"sets", &mut sets_rules, &mut sets_states, true);
 }

@@ -10,7 +10,7 @@ same-as : (c : tie.After-is-same) → c .is-same .result ≡ isExpected (c .befo
 unfolding isExpected
 same-as c =
     c .is-same .ensures
-    ∙ ap₂ sameAnswer (c .before .answer-of .ensures ∙ c .before .before .read .ensures .0) (c .before .before .before .expected-of .ensures ∙ ap expectedOf (c .before .before .before .before .first-line .ensures))
+    ∙ ap₂ sameAnswer (c .before .before .accept .ensures .0) (c .before .before .before .expected-of .ensures ∙ ap expectedOf (c .before .before .before .before .first-line .ensures))
 
 first-line-requires : tie.Need-first-line-requires
 first-line-requires c κs = search needs
@@ -18,11 +18,8 @@ first-line-requires c κs = search needs
 expected-of-requires : tie.Need-expected-of-requires
 expected-of-requires c κs = search needs
 
-read-requires : tie.Need-read-requires
-read-requires c κs = search needs
-
-answer-of-requires : tie.Need-answer-of-requires
-answer-of-requires c κs = search needs
+accept-requires : tie.Need-accept-requires
+accept-requires c κs = search needs
 
 is-same-requires : tie.Need-is-same-requires
 is-same-requires c κs = search needs
@@ -42,8 +39,7 @@ compare-spec =
     (tie.spec
     first-line-requires
     expected-of-requires
-    read-requires
-    answer-of-requires
+    accept-requires
     is-same-requires
     returns
     print-difference-requires
