@@ -25,7 +25,8 @@ use Rattle.meaning.proofs.Acceptance.{All-over, read-productions}
 use Rattle.refusals.specs.declared.Known.{Known}
 use Rattle.refusals.specs.Known.{Knows, fieldsRead}
 use Rattle.refusals.specs.Tests.{knownTypes, knownSymbols, earlierIn}
-use Rattle.rules.proofs.Keeping.{length-padded, count-of, known-types, known-symbols, length-arities}
+use Rattle.refusals.proofs.Knowing.{length-arities, count-of, known-types, known-symbols}
+use Rattle.rules.proofs.Keeping.{length-padded}
 use Rattle.rules.proofs.Whole.{well, knows-all, earlier, reads}
 use Rattle.automaton.specs.Marking.{AreProductions}
 use Rattle.states.specs.Asked.{Limited}

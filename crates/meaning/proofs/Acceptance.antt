@@ -305,7 +305,7 @@ none-refused-fields fs = (
 )
 
 -- no field is cut
-rising-whole : (t top : ℕ) (fs : List Field) → Rising t top fs → All (λ (f : Field). T (not (isCut f))) fs
+pub rising-whole : (t top : ℕ) (fs : List Field) → Rising t top fs → All (λ (f : Field). T (not (isCut f))) fs
 rising-whole t top [] h = tt
 rising-whole t top (cut ∷ fs) h = absurd h
 rising-whole t top (whole g c ∷ fs) h = (tt, rising-whole g top fs (h .2))

@@ -3,7 +3,7 @@
 use Prim.Native.Nat.{ℕ, zero, suc, _+_, _-_, _≤_, _<_, zero-le}
 use mathlib.Core.Path.{_≡_, refl, sym, ap, ap₂, subst, _∙_}
 use mathlib.Core.Logic.{_⊎_, inl, inr, ⊎-elim, _↔_, _≢_}
-use mathlib.Core.Bool.{Bool, true, false, not, _||_}
+use mathlib.Core.Bool.{Bool, not}
 use mathlib.Core.List.{List, [], _∷_, _++_, map, map-append, append-nil}
 use mathlib.Core.Option.{Option, some}
 use native.Mathlib.Nat.{le-refl, le-of-eq, le-trans, not-suc-le-zero, eq-or-lt-of-le, lt-irrefl}
@@ -19,19 +19,10 @@ use Rattle.meaning.specs.Fields.{Field, whole, cut, contentsOf}
 use Rattle.meaning.specs.Contents.{isSome, isProduction, readClause, readQuery}
 use Rattle.meaning.specs.Refusals.{isRefused, kindOf, testKind, contents, firstByte, namesIn, laidOutAfter, lastTag}
 use Rattle.meaning.specs.Legal.{NoneTwice}
-use Rattle.meaning.proofs.Lists.{decide, clash, not-not, not-not-intro, not-intro, any-find, any-give, any-append, All-append, All-split, mem-getD, mem-place, same-eq, eq-same, cond-yes, cond-no}
+use Rattle.meaning.proofs.Lists.{decide, clash, not-not, not-not-intro, not-intro, neither, neither-of, any-find, any-give, any-append, All-append, All-split, mem-getD, mem-place, same-eq, eq-same, cond-yes, cond-no}
 use Rattle.meaning.proofs.Contents.{Post, post-at, post-cond, isSome-find, isSome-give}
 use Rattle.meaning.proofs.Answers.{Fine, not-refused}
 use Rattle.meaning.proofs.Fields.{NoField, contentsOf-append}
-
--- neither of two tests passes
-neither : (a b : Bool) → T (not (a || b)) → T (not a) × T (not b)
-neither true b t = absurd t
-neither false b t = (tt, t)
-
-neither-of : (a b : Bool) → T (not a) → T (not b) → T (not (a || b))
-neither-of true b s t = absurd s
-neither-of false b s t = t
 
 -- Tags and kinds
 pub kind-tag : (g : ℕ) → Post (λ (k : Kind). g ≡ tagOf k) (kindOf g)

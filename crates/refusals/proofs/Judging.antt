@@ -1,23 +1,21 @@
 -- The number of a field by what is known of the fields before it: the tests of this crate are those of the meaning, and each way out of `judge`
 -- gives the number of the first that passes. Assumes nothing.
-use Prim.Native.Nat.{ℕ, _+_, _-_, _<_}
+use Prim.Native.Nat.{ℕ, _+_, _<_}
 use mathlib.Core.Path.{_≡_, refl, sym, ap, ap₂, _∙_}
 use mathlib.Core.Bool.{Bool, true, false, cond, not, _||_}
-use mathlib.Core.List.{List, [], _∷_, map}
+use mathlib.Core.List.{List, [], _∷_}
 use mathlib.Core.Option.{Option, none, some}
 use lib.Dec.{leb, ltb, lit<}
-use lib.ListN.{length, getD, take, drop, replicate, length-map}
-use lib.Seq.{take-at}
+use lib.ListN.{length, getD, take, drop}
 use Rattle.meaning.specs.Lists.{any, same}
-use Rattle.meaning.specs.Limits.{Kind, symbol, predicate, tagOf, mostOf, mostContent}
+use Rattle.meaning.specs.Limits.{Kind, tagOf, mostOf, mostContent}
 use Rattle.meaning.specs.Fields.{Field, whole, contentsOf}
 use Rattle.meaning.specs.Contents.{isSome}
-use Rattle.meaning.specs.Refusals.{Answer, accepted, refused, kindOf, testKind, contents, aritiesIn, firstByte, namesIn, laidOut, laidOutAfter, lastTag, refusal}
-use Rattle.meaning.proofs.Lists.{getD-table}
+use Rattle.meaning.specs.Refusals.{Answer, accepted, refused, kindOf, testKind, contents, namesIn, laidOut, laidOutAfter, lastTag, refusal}
 use Rattle.meaning.proofs.Contents.{Post}
 use Rattle.meaning.proofs.ByKind.{kind-tag, tag-range}
 use Rattle.fields.specs.Found.{contentsFrom}
-use Rattle.refusals.specs.Known.{padded, firstAt}
+use Rattle.refusals.proofs.Knowing.{count-of, start-of, known-symbols, known-predicates}
 use Rattle.refusals.specs.declared.Known.{Known}
 use Rattle.refusals.specs.Tests.{wrongTagAfter, full, knownTypes, knownSymbols, knownPredicates, earlierIn, isFull, isMalformed, isTaken, numbered, Stands}
 
@@ -25,26 +23,14 @@ use Rattle.refusals.specs.Tests.{wrongTagAfter, full, knownTypes, knownS
 first : Bool → Bool → Bool → Bool → ℕ
 first wrong more bad taken = cond wrong 3 (cond more 6 (cond bad 4 (cond taken 5 0)))
 
--- the arities in an array
-taken-front : (n : ℕ) (cs : List (List ℕ)) → take (length cs) (padded n (map firstByte cs)) ≡ map firstByte cs
-taken-front n cs = take-at (map firstByte cs) (replicate (n - length (map firstByte cs)) 0) (length cs) (length-map cs firstByte)
-
 module _ (file : List ℕ) (known : Known) (last : ℕ) (done : List Field) (s : Stands file known last done) where
   -- what is kept is what the fields before say
   count-known : (t : ℕ) → t < 7 → getD (known .counts) t 0 ≡ length (contentsOf t done)
-  count-known t lt = ap (λ (l : List ℕ). getD l t 0) (s .knows .counts) ∙ getD-table 7 (λ u. length (contentsOf u done)) 0 t lt
-
-  symbols-known : knownSymbols known ≡ aritiesIn symbol done
-  symbols-known = ap₂ (λ (n : ℕ) (l : List ℕ). take n l) (count-known 1 (lit< tt)) (s .knows .symbols) ∙ taken-front 24 (contents symbol done)
-
-  predicates-known : knownPredicates known ≡ aritiesIn predicate done
-  predicates-known = ap₂ (λ (n : ℕ) (l : List ℕ). take n l) (count-known 4 (lit< tt)) (s .knows .predicates) ∙ taken-front 16 (contents predicate done)
+  count-known = count-of known done (s .knows)
 
   earlier-known : (t : ℕ) → t < 7 → earlierIn file known t ≡ contentsOf t done
   earlier-known t lt =
-      ap₂ (λ (n i : ℕ). contentsFrom n (drop i file)) (count-known t lt)
-      (ap (λ (l : List ℕ). getD l t 0) (s .knows .starts) ∙ getD-table 7 (λ u. firstAt u 0 done) 0 t lt)
-      ∙ s .found t
+      ap₂ (λ (n i : ℕ). contentsFrom n (drop i file)) (count-known t lt) (start-of known done (s .knows) t lt) ∙ s .found t
 
   module _ (tag : ℕ) (content : List ℕ) where
     refusal-known : refusal done (whole tag content)
@@ -65,7 +51,7 @@ module _ (file : List ℕ) (known : Known) (last : ℕ) (done : List Field) (s :
             (long || not (testKind o (λ k. laidOut (knownTypes known) (knownSymbols known) (knownPredicates known) k content)))
             (testKind o (λ k. any (λ name. any (same name) (namesIn k (earlierIn file known tag))) (namesIn k (content ∷ []))))
         go none p = refl
-        go (some k) p = rw (p, s .tag, earlier-known (tagOf k) (tag-range k .1), symbols-known, predicates-known, count-known 2 (lit< tt), count-known (tagOf k) (tag-range k .1))
+        go (some k) p = rw (p, s .tag, earlier-known (tagOf k) (tag-range k .1), known-symbols known done (s .knows), known-predicates known done (s .knows), count-known 2 (lit< tt), count-known (tagOf k) (tag-range k .1))
 
 -- the content of a field at a position
 abbrev pub contentAt : List ℕ → ℕ → ℕ → List ℕ

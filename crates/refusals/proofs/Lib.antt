@@ -1,4 +1,5 @@
 -- The laws that the proofs of this crate cite.
+pub mod Knowing
 pub mod Tags
 pub mod LaidOut
 pub mod Earlier

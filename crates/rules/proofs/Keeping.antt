@@ -6,19 +6,19 @@ use mathlib.Core.Bool.{Bool, true, false, cond, not}
 use mathlib.Core.List.{List, [], _∷_, _++_, map, append-assoc, append-nil, map-append}
 use native.Mathlib.Nat.{zero-lt-suc, add-assoc, add-zero, zero-add, suc-ne-zero, suc-inj, not-suc-le-zero, le-of-suc-le-suc}
 use native.Mathlib.Omega.{arith}
-use lib.Dec.{T, eqb, eqb→eq, eqb-refl, eqb·suc-zero, lit<}
+use lib.Dec.{T, eqb, eqb→eq, eqb-refl, eqb·suc-zero}
 use native.Mathlib.Decide.{ℕ-discrete}
-use lib.ListN.{length-map, length, getD, set, take, replicate, length-append, length-replicate}
-use lib.Seq.{take-append-seam, set-append-seam}
+use lib.ListN.{length, getD, set, replicate, length-append, length-replicate}
+use lib.Seq.{set-append-seam}
 use Rattle.meaning.specs.Lists.{All, table}
 use Rattle.meaning.specs.Limits.{Kind, symbol, predicate, tagOf, mostOf}
-use Rattle.meaning.specs.Refusals.{contents, firstByte, aritiesIn, typesIn, isCut}
-use Rattle.refusals.specs.Tests.{knownTypes, knownSymbols, knownPredicates}
+use Rattle.meaning.specs.Refusals.{contents, firstByte, aritiesIn, isCut}
 use Rattle.meaning.specs.Fields.{Field, whole, cut, contentsOf}
-use Rattle.meaning.proofs.Lists.{getD-table, not-intro, cond-yes, cond-no, table-ext}
+use Rattle.meaning.proofs.Lists.{not-intro, cond-yes, cond-no, table-ext}
 use Rattle.meaning.proofs.Fields.{contentsOf-append}
 use Rattle.rules.specs.Read.{bytesIn, startedAt, roomFor}
 use Rattle.refusals.specs.declared.Known.{Known}
+use Rattle.refusals.proofs.Knowing.{length-arities, count-of}
 use Rattle.refusals.specs.Known.{tags, countsOf, firstAt, startsOf, padded, Knows}
 
 -- an array is full; an array with one more in it
@@ -136,35 +136,16 @@ arities-snoc k fs content = ap (map firstByte) (contents-same (tagOf k) fs conte
 pub arities-other : (k : Kind) (t : ℕ) (fs : List Field) (content : List ℕ) → tagOf k ≢ t → aritiesIn k (fs ++ (whole t content ∷ [])) ≡ aritiesIn k fs
 arities-other k t fs content ne = ap (map firstByte) (contents-other (tagOf k) t fs content ne)
 
-pub length-arities : (k : Kind) (fs : List Field) → length (aritiesIn k fs) ≡ length (contents k fs)
-length-arities k fs = length-map (contents k fs) firstByte
-
 -- all that is known, with one field more
 module _ (known : Known) (done : List Field) (knows : Knows known done) where
-  pub count-of : (t : ℕ) → t < tags → getD (known .counts) t 0 ≡ length (contentsOf t done)
-  count-of t h = ap (λ (l : List ℕ). getD l t 0) (knows .counts) ∙ getD-table tags (λ u. length (contentsOf u done)) 0 t h
-
-  pub start-of : (t : ℕ) → t < tags → getD (known .starts) t 0 ≡ firstAt t 0 done
-  start-of t h = ap (λ (l : List ℕ). getD l t 0) (knows .starts) ∙ getD-table tags (λ u. firstAt u 0 done) 0 t h
-
-  -- the declarations that are known are those read
-  pub known-types : knownTypes known ≡ typesIn done
-  known-types = count-of 2 (lit< tt)
-
-  pub known-symbols : knownSymbols known ≡ aritiesIn symbol done
-  known-symbols = ap₂ take (count-of 1 (lit< tt) ∙ sym (length-arities symbol done)) (knows .symbols) ∙ take-append-seam (aritiesIn symbol done) _
-
-  pub known-predicates : knownPredicates known ≡ aritiesIn predicate done
-  known-predicates = ap₂ take (count-of 4 (lit< tt) ∙ sym (length-arities predicate done)) (knows .predicates) ∙ take-append-seam (aritiesIn predicate done) _
-
   module _ (t : ℕ) (content : List ℕ) (h : t < tags) where
     pub counts-more : set (known .counts) t (getD (known .counts) t 0 + 1) ≡ countsOf (done ++ (whole t content ∷ []))
-    counts-more = ap₂ (λ (l : List ℕ) (n : ℕ). set l t (n + 1)) (knows .counts) (count-of t h) ∙ counts-snoc done t content h
+    counts-more = ap₂ (λ (l : List ℕ) (n : ℕ). set l t (n + 1)) (knows .counts) (count-of known done knows t h) ∙ counts-snoc done t content h
 
     pub starts-more : (at : ℕ) → All (λ f. T (not (isCut f))) done → bytesIn done ≡ at
         → startedAt (known .starts) t (getD (known .counts) t 0) at ≡ startsOf (done ++ (whole t content ∷ []))
     starts-more at w bytes =
-        ap₂ (λ (l : List ℕ) (n : ℕ). startedAt l t n at) (knows .starts) (count-of t h) ∙ go (length (contentsOf t done)) refl
+        ap₂ (λ (l : List ℕ) (n : ℕ). startedAt l t n at) (knows .starts) (count-of known done knows t h) ∙ go (length (contentsOf t done)) refl
       where
         go : (n : ℕ) → length (contentsOf t done) ≡ n → startedAt (startsOf done) t n at ≡ startsOf (done ++ (whole t content ∷ []))
         go zero e = ap (set (startsOf done) t) (sym bytes) ∙ starts-new done t content h w e

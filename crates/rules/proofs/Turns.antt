@@ -24,7 +24,8 @@ use Rattle.refusals.specs.Verdict.{answerOf}
 use Rattle.fields.proofs.Fronts.{front-inside, front-content, found-whole}
 use Rattle.refusals.specs.Tests.{numbered, Stands, Within}
 use Rattle.rules.specs.Read.{roomFor, bytesIn, Outcome}
-use Rattle.rules.proofs.Keeping.{count-of, length-padded, length-arities}
+use Rattle.refusals.proofs.Knowing.{count-of, length-arities}
+use Rattle.rules.proofs.Keeping.{length-padded}
 use Rattle.rules.proofs.Reached.{Reached, contents-found, chain-whole, chain-bytes, stop-field, reached-more}
 
 -- a kind with room left finds room

@@ -18,15 +18,15 @@ use Rattle.meaning.specs.Files.{readAll, productionOf, rulesIn, rulesOf, readAn
 use Rattle.meaning.proofs.Lists.{cond-no}
 use Rattle.meaning.proofs.Fields.{fields-step, firstField-none}
 use Rattle.meaning.proofs.Answers.{none-refused, read-accepted}
-use Rattle.meaning.proofs.ByKind.{tag-range, WellFields, fine-well, Rising}
-use Rattle.meaning.proofs.Acceptance.{arities-named}
+use Rattle.meaning.proofs.ByKind.{tag-range, WellFields, fine-well}
+use Rattle.meaning.proofs.Acceptance.{arities-named, rising-whole}
 use Rattle.refusals.specs.declared.Known.{Known}
 use Rattle.fields.specs.Found.{contentsFrom, nthIn}
 use Rattle.refusals.specs.Known.{Knows, before, fieldsRead}
 use Rattle.refusals.specs.Tests.{knownTypes, knownSymbols, knownPredicates, earlierIn}
 use Rattle.fields.proofs.Fronts.{front-rest}
 use Rattle.fields.proofs.Nth.{nth-of-contents}
-use Rattle.rules.proofs.Keeping.{count-of, start-of, known-types, known-symbols, known-predicates}
+use Rattle.refusals.proofs.Knowing.{count-of, start-of, known-types, known-symbols, known-predicates}
 use Rattle.rules.proofs.Reached.{Chain, contents-found}
 
 -- fields of which none is cut stand one after the other
@@ -55,11 +55,6 @@ fields-chain file (whole t c ∷ fs) at e w = go (frontOf (drop at file)) refl (
         let later : fields rest ≡ fs = cc in
         let w = rec (ap fields (sym past) ∙ later) in
         (w .0, (is ∙ (ap₂ (λ (n : ℕ) (l : List ℕ). front n l rest) tag content ∙ ap (front t c) past), w .1))
-
-rising-whole : (t top : ℕ) (fs : List Field) → Rising t top fs → All (λ f. T (not (isCut f))) fs
-rising-whole t top [] r = tt
-rising-whole t top (cut ∷ fs) r = absurd r
-rising-whole t top (whole g c ∷ fs) r = (tt, rising-whole g top fs (r .2))
 
 ap₃ : {A B C D : Type 0} (f : A → B → C → D) {a a′ : A} {b b′ : B} {c c′ : C} → a ≡ a′ → b ≡ b′ → c ≡ c′ → f a b c ≡ f a′ b′ c′
 ap₃ f p q r i = f (p i) (q i) (r i)

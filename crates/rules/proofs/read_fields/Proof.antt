@@ -13,7 +13,7 @@ use Rattle.meaning.proofs.Lists.{T-of, T-not-of}
 use Rattle.fields.specs.Found.{foundIn}
 use Rattle.fields.specs.declared.Found.the-variants.{Whole}
 use Rattle.fields.proofs.Fronts.{found-cut, found-end}
-use Rattle.rules.proofs.Keeping.{known-symbols}
+use Rattle.refusals.proofs.Knowing.{known-symbols}
 use Rattle.rules.proofs.Reached.{Reached, reached-none, stop-cut, stop-end}
 use Rattle.rules.proofs.Turns.{within, stands, room, whole-fields, bytes-read, contentHere, in-file, refuses, goes-on, again}
 use Rattle.rules.proofs.read_fields.Statement.{statement}

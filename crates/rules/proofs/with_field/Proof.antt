@@ -9,7 +9,8 @@ use Rattle.meaning.specs.Limits.{symbol, predicate}
 use Rattle.meaning.specs.Fields.{whole, contentsOf}
 use Rattle.meaning.specs.Refusals.{aritiesIn}
 use Rattle.refusals.specs.Known.{padded}
-use Rattle.rules.proofs.Keeping.{count-of, arities-more, arities-kept, knows-more, room-symbol, room-predicate, room-byte}
+use Rattle.refusals.proofs.Knowing.{count-of}
+use Rattle.rules.proofs.Keeping.{arities-more, arities-kept, knows-more, room-symbol, room-predicate, room-byte}
 use borrow.Author.Needs.{needs}
 use Rattle.rules.proofs.with_field.Statement.{statement}
 use Rattle.rules.proofs.with_field.Tie as tie
