@@ -1,7 +1,7 @@
 -- The content and the end of what stands at a position, and the content of field k from a position on. Assumes nothing.
 use Prim.Native.Nat.{ℕ, zero, suc, _+_, _-_, _≤_, _<_}
 use mathlib.Core.Path.{_≡_, refl, sym, ap, subst, _∙_}
-use mathlib.Core.List.{List, []}
+use mathlib.Core.List.{List, [], _∷_}
 use native.Mathlib.Omega.{arith}
 use lib.Dec.{T}
 use lib.ListN.{length, getD, take, drop}
@@ -87,3 +87,21 @@ nth-of-contents (suc n) (suc k) bytes h = later (frontOf bytes) h (λ rest. nth-
     later empty lt rec = absurd (omega arith)
     later short lt rec = absurd (omega arith)
     later (front tag content rest) lt rec = rec rest (omega arith)
+
+-- the first of some contents stands at the position, the others from the next position on
+pub contents-step : (s : List ℕ) (at left : ℕ)
+    → 0 < left
+    → length (contentsFrom left (drop at s)) ≡ left
+    → contentsFrom left (drop at s) ≡ contentIn (frontOf (drop at s)) ∷ contentsFrom (left - 1) (drop (nextIn at (frontOf (drop at s))) s)
+contents-step s at zero h number = absurd (omega arith)
+contents-step s at (suc left) h number =
+    let e : left ≡ suc left - 1 = omega arith in
+    go (frontOf (drop at s)) refl number ∙ ap (λ (n : ℕ). contentIn (frontOf (drop at s)) ∷ contentsFrom n (drop (nextIn at (frontOf (drop at s))) s)) e
+  where
+    go : (f : Front)
+        → frontOf (drop at s) ≡ f
+        → length (onContent f (λ rest. contentsFrom left rest)) ≡ suc left
+        → onContent f (λ rest. contentsFrom left rest) ≡ contentIn f ∷ contentsFrom left (drop (nextIn at f) s)
+    go empty e n = absurd (omega arith)
+    go short e n = absurd (omega arith)
+    go (front tag content rest) e n = ap (λ (bytes : List ℕ). content ∷ contentsFrom left bytes) (front-rest s at tag content rest e)

@@ -361,3 +361,11 @@ accepted-exact file = (
       (answer-cases file),
   accepted-answer file,
 )
+
+-- the number alone tells that a file is accepted
+pub zero-accepted : (file : List ℕ) → fileAnswer file .number ≡ 0 → fileAnswer file ≡ accepted
+zero-accepted file e =
+    ⊎-elim
+    (λ w. w .1)
+    (λ w. absurd (given-pos file (w .0) (w .1) (w .2) (sym (ap (λ (a : Answer). a .number) (w .3)) ∙ e)))
+    (answer-cases file)

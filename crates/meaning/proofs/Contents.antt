@@ -485,3 +485,10 @@ isProduction-exact types arities (target ∷ symbol ∷ arguments) = (
       (both-of (ltb target types) (declared arities symbol (length arguments)) (lt→ltb target types (h .1 .0)) (declared-exact arities symbol (length arguments) .1 (h .1 .1)))
       (facts-all (λ x. ltb x types) arguments (All-map arguments (λ x. lt→ltb x types) (h .1 .2))),
 )
+
+-- what is read is well formed
+pub clause-well : (arities preds content : List ℕ) (c : Clause) → readClause arities preds content ≡ some c → WellClause arities preds c
+clause-well arities preds content c e = post-at (λ (d : Clause). (content ≡ encodeClause d) × WellClause arities preds d) e (clause-post arities preds content) .1
+
+pub query-well : (types : ℕ) (arities preds content : List ℕ) (q : Query) → readQuery types arities preds content ≡ some q → WellQuery types arities preds q
+query-well types arities preds content q e = post-at (λ (d : Query). (content ≡ encodeQuery d) × WellQuery types arities preds d) e (query-post types arities preds content) .1

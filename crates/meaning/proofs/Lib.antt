@@ -17,6 +17,7 @@ pub mod Stages
 pub mod Sums
 pub mod Model
 pub mod Verdicts
+pub mod Interpretations
 pub mod Soundness
 pub mod MarkedAtoms
 pub mod Certificates
