@@ -1,0 +1,91 @@
+-- How an analysis ends: refused with 1 to 8, with 9, or done. Assumes nothing.
+use Prim.Native.Nat.{ℕ, _-_, _≤_}
+use mathlib.Core.Path.{_≡_, refl, sym, ap, ap₂, subst, _∙_}
+use mathlib.Core.Logic.{_≢_}
+use mathlib.Core.Bool.{Bool, true, false, not, _&&_}
+use mathlib.Core.List.{List}
+use native.Mathlib.Omega.{arith}
+use lib.Dec.{T, leb, leb→le}
+use lib.ListN.{length, replicate, length-append}
+use Rattle.meaning.specs.Limits.{mostStates}
+use Rattle.meaning.specs.Cells.{cells}
+use Rattle.meaning.specs.Refusals as meant
+use Rattle.meaning.specs.Files.{fileAnswer}
+use Rattle.meaning.specs.Calls.{statesOf, tablesOf, modelOf, verdictsOf, Buffers, longEnough, analysisAnswer, analysed}
+use Rattle.meaning.proofs.Lists.{both}
+use Rattle.meaning.proofs.Answers.{then-first, then-next}
+use Rattle.meaning.proofs.Calls.{analysis-refused, analysis-filled}
+use Rattle.accept.specs.declared.Answer.{Answer}
+use Rattle.accept.specs.Accepted.{answered}
+use Rattle.states.specs.declared.States.{States}
+use Rattle.states.specs.declared.Count.the-variants.{Known}
+use Rattle.states.specs.Packed.{packed, padded}
+use Rattle.states.proofs.Packed.{known-is}
+use Rattle.analysis.specs.Given.{given, noCounts, analysisDone}
+
+module _ (file : List ℕ) (before : Buffers) where
+  -- a refusal, with all buffers untouched
+  refused-is : {a : Answer} → answered a ≡ analysisAnswer file before → analysisAnswer file before .number ≢ 0 → given (noCounts a) before ≡ analysed file before
+  unfolding analysed
+  refused-is e h =
+      let w = analysis-refused file before h in
+      λ i. record { answer = e i; states = sym (w .1) i; atoms = sym (w .2) i; rounds = sym (w .3) i; after = sym (w .0) i }
+
+  -- 1 to 8
+  pub file-refused : {a : Answer} → answered a ≡ fileAnswer file → a .number ≢ 0 → given (noCounts a) before ≡ analysed file before
+  unfolding analysisAnswer
+  file-refused {a} e h =
+      let pos : fileAnswer file .number ≢ 0 = λ z. h (ap (λ (x : meant.Answer). x .number) e ∙ z) in
+      let same = then-first (fileAnswer file) (meant.refuseIf (not (longEnough file before)) 9 0) pos in
+      refused-is (e ∙ sym same) (λ z. pos (sym (ap (λ (x : meant.Answer). x .number) same) ∙ z))
+
+  module _ (e : fileAnswer file ≡ meant.accepted) where
+    next : analysisAnswer file before ≡ meant.refuseIf (not (longEnough file before)) 9 0
+    unfolding analysisAnswer
+    next = then-next (fileAnswer file) (meant.refuseIf (not (longEnough file before)) 9 0) (ap (λ (x : meant.Answer). x .number) e)
+
+    -- 9
+    pub too-short : {a : Answer} → answered a ≡ meant.refused 9 0 → longEnough file before ≡ false → given (noCounts a) before ≡ analysed file before
+    too-short is short =
+        let nine : analysisAnswer file before ≡ meant.refused 9 0 = next ∙ ap (λ (b : Bool). meant.refuseIf (not b) 9 0) short in
+        refused-is (is ∙ sym nine) (λ z. absurd (omega (arith, ap (λ (x : meant.Answer). x .number) nine, z)))
+
+    -- 0
+    pub done : longEnough file before ≡ true → analysisDone file before ≡ analysed file before
+    unfolding analysed
+    done long =
+        let zero-is : analysisAnswer file before ≡ meant.accepted = next ∙ ap (λ (b : Bool). meant.refuseIf (not b) 9 0) long in
+        let w = analysis-filled file before (ap (λ (x : meant.Answer). x .number) zero-is) in
+        λ i. record { answer = sym zero-is i; states = sym (w .1) i; atoms = sym (w .2) i; rounds = sym (w .3) i; after = sym (w .0) i }
+
+  -- the lengths that are looked at are those that are needed
+  pub enough-is : (m : ℕ) (symbols preds : List ℕ) (queries : ℕ)
+      → m ≡ length (statesOf file)
+      → cells m symbols ≡ length (tablesOf file)
+      → cells m preds ≡ length (modelOf file)
+      → queries ≡ length (verdictsOf file)
+      → (leb m (length (before .states)) && leb (cells m symbols) (length (before .tables)) && leb (cells m preds) (length (before .marks)) && leb queries (length (before .verdicts))) ≡ longEnough file before
+  enough-is m symbols preds queries a b c d i =
+      leb (a i) (length (before .states)) && leb (b i) (length (before .tables)) && leb (c i) (length (before .marks)) && leb (d i) (length (before .verdicts))
+
+  pub room : T (longEnough file before)
+      → (length (statesOf file) ≤ length (before .states))
+      × (length (tablesOf file) ≤ length (before .tables))
+      × (length (modelOf file) ≤ length (before .marks))
+      × (length (verdictsOf file) ≤ length (before .verdicts))
+  room t =
+      let a : Bool = leb (length (statesOf file)) (length (before .states)) in
+      let b : Bool = leb (length (tablesOf file)) (length (before .tables)) in
+      let c : Bool = leb (length (modelOf file)) (length (before .marks)) in
+      let d : Bool = leb (length (verdictsOf file)) (length (before .verdicts)) in
+      let u = both (a && b && c) d t in
+      let v = both (a && b) c (u .0) in
+      let w = both a b (v .0) in
+      (leb→le _ _ (w .0), leb→le _ _ (w .1), leb→le _ _ (v .1), leb→le _ _ (u .1))
+
+-- the states that were found stand in their array
+pub sets-fit : {r : States} (l : List ℕ) {k : ℕ} → r ≡ packed l → r .count ≡ Known k → k ≤ length (r .sets)
+unfolding padded
+sets-fit l e f =
+    let w = known-is l e f in
+    omega (arith, w .0, ap length (w .2), length-append l (replicate (mostStates - length l) 0))

@@ -1,0 +1,5 @@
+pub mod Handed
+pub mod Handing
+pub mod Ends
+pub mod Beginnings
+pub mod Fronts
