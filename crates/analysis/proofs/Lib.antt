@@ -1,5 +1,6 @@
 pub mod Handed
 pub mod Handing
 pub mod Ends
+pub mod Theorems
 pub mod Beginnings
 pub mod Fronts

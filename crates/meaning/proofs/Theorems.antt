@@ -16,7 +16,7 @@ use Rattle.meaning.specs.Legal.{Legal, Declared, NoneTwice, WellClause, 
 use Rattle.meaning.specs.Types.{has, bit, IsGround, AreGround, OfType, typesOf}
 use Rattle.meaning.specs.Cells.{cell, start, cells}
 use Rattle.meaning.specs.States.{indexOf, tables}
-use Rattle.meaning.specs.Clauses.{AtomSet, IsAtom, marked, Closed, stage, rounds, model, Open, isOpen}
+use Rattle.meaning.specs.Clauses.{AtomSet, IsAtom, place, marked, Closed, stage, rounds, model, Open, isOpen}
 use Rattle.meaning.specs.Clauses as Clauses
 use Rattle.meaning.specs.Ground.{NoneDerivable}
 use Rattle.meaning.specs.Fields.{Bytes, cut, encodeField, fields}
@@ -25,6 +25,7 @@ use Rattle.meaning.specs.Files.{rulesOf, fileAnswer}
 use Rattle.meaning.specs.Certificates.{encodeSheet, stateBytes, IsSheetAtom, LaidOut, Carries, InSheet, Valid, sheetAnswer}
 use Rattle.meaning.specs.Calls.{symbolArities, predicateArities, statesOf, stepOf, interpretationOf, tablesOf, roundsOf, modelOf, atomsOf, verdictOf, OrderOf}
 use Rattle.meaning.proofs.Lists.{All-map, All-find}
+use Rattle.meaning.proofs.Cells.{place-lt}
 use Rattle.meaning.proofs.Acceptance.{accepted-legal}
 use Rattle.meaning.proofs.Answers.{refusal-range, Read, symbolsOf, Given, refused-exact}
 use Rattle.meaning.proofs.Setting.{InRange, Homomorphism, eachState}
@@ -120,6 +121,17 @@ module _ (file : List ℕ) (admitted : Admitted file) where
       (subst (Declared (symbolArities file) f) (sym (length-eachState stateOfTerm ts)) declared)
       (eachState-lt (symbolArities file) (length (statesOf file)) stateOfTerm (homomorphism .below) ts ground)
       ∙ sym (homomorphism .along f ts (declared-allowed (symbolArities file) f (treeCount ts) declared, ground))
+
+  -- that cell is one of the tables
+  pub tables-inside : (f : ℕ) (ts : Trees)
+      → Declared (symbolArities file) f (treeCount ts)
+      → AreGround (symbolArities file) ts
+      → start (length (statesOf file)) (symbolArities file) f + cell (length (statesOf file)) (eachState stateOfTerm ts) < length (tablesOf file)
+  unfolding tablesOf
+  tables-inside f ts declared ground =
+      subst (λ (n : ℕ). place (length (statesOf file)) (symbolArities file) f (eachState stateOfTerm ts) < n) (sym (States.length-tables (stepOf file) (statesOf file) (symbolArities file)))
+      (place-lt (length (statesOf file)) (symbolArities file) f (eachState stateOfTerm ts)
+      (subst (Declared (symbolArities file) f) (sym (length-eachState stateOfTerm ts)) declared, eachState-lt (symbolArities file) (length (statesOf file)) stateOfTerm (homomorphism .below) ts ground))
 
   abbrev clauses : List Clause
   clauses = rulesOf file .clauses

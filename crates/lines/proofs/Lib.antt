@@ -1,0 +1,10 @@
+pub mod Texts
+pub mod Putting
+pub mod Sizes
+pub mod Pieces
+pub mod Numbers
+pub mod Found
+pub mod Places
+pub mod AtomAt
+pub mod AtHand
+pub mod Examples

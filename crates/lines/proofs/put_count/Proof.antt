@@ -1,0 +1,35 @@
+-- `lines::put_count` meets its contract. Assumes nothing.
+use mathlib.Core.List.{[], _∷_}
+use native.Mathlib.Omega.{arith}
+use Rattle.lines.specs.Lines.{lineEnd, numberAfter, countLine}
+use Rattle.lines.proofs.Putting.{put-first, put-room, put-then}
+use borrow.Author.Needs.{needs}
+use Rattle.lines.proofs.put_count.Statement.{statement}
+use Rattle.lines.proofs.put_count.Tie as tie
+
+put-number-requires : tie.Need-put-number-requires
+unfolding countLine
+put-number-requires c κs =
+    let x = c .before .before .before in
+    let a = x .args in
+    put-first (a .out .now) (a .at) (numberAfter (a .word .now) (a .n)) (lineEnd ∷ []) (x .pre)
+
+put-byte-requires : tie.Need-put-byte-requires
+unfolding countLine
+put-byte-requires c κs =
+    let x = c .before .before .before .before .before .before .before in
+    let a = x .args in
+    omega (arith, put-room (a .out .now) (a .at) (numberAfter (a .word .now) (a .n)) (lineEnd ∷ []) (x .pre) (c .before .before .before .put-number .ensures))
+
+same-length : tie.Need-same-length
+same-length c = search needs
+
+returns : tie.Need-returns
+unfolding countLine
+returns c =
+    let x = c .before .before .before .before .before .before .before .before .before .before in
+    let a = x .args in
+    put-then (a .out .now) (a .at) (numberAfter (a .word .now) (a .n)) (lineEnd ∷ []) (x .pre) (c .before .before .before .before .before .before .put-number .ensures) (c .before .before .put-byte .ensures)
+
+pub put-count-spec : {M : Type 1} → statement M
+put-count-spec = tie.close (tie.spec put-number-requires put-byte-requires same-length returns)
