@@ -31,6 +31,7 @@ use Rattle.meaning.proofs.Theorems as theorems
 use Rattle.accept.specs.Accepted.{answered}
 use Rattle.analysis.specs.declared.Analysis.{Analysis}
 use Rattle.analysis.specs.Given.{given}
+use Rattle.analysis.proofs.Fronts.{written-again}
 use Rattle.analysis.proofs.Ends.{room}
 
 -- a byte of the needed ones
@@ -95,7 +96,7 @@ module _ (file : List ℕ) (before after : Buffers) (r : Analysis) (is : given r
     pub count-of-atoms : r .atoms ≡ length (atomsOf file)
     count-of-atoms = ap (λ (a : Analysed). a .atoms) is ∙ filled-is .2
 
-    count-of-rounds : r .rounds ≡ roundsOf file
+    pub count-of-rounds : r .rounds ≡ roundsOf file
     count-of-rounds = ap (λ (a : Analysed). a .rounds) is ∙ filled-is .3
 
     -- the needed bytes stand at the front of each buffer
@@ -103,13 +104,23 @@ module _ (file : List ℕ) (before after : Buffers) (r : Analysis) (is : given r
     first-states =
         ap (λ (b : Buffers). take (r .states) (b .states)) after-is ∙ take-at (statesOf file) (drop (length (statesOf file)) (before .states)) (r .states) (sym count-of-states)
 
-    pub first-marks : (n : ℕ) → n ≡ length (modelOf file) → take n (after .marks) ≡ modelOf file
-    first-marks n e = ap (λ (b : Buffers). take n (b .marks)) after-is ∙ take-at (modelOf file) (drop (length (modelOf file)) (before .marks)) n (sym e)
+    -- writing the needed bytes again would change nothing
+    pub holds-states : after .states ≡ written (statesOf file) (after .states)
+    holds-states =
+        let e : after .states ≡ written (statesOf file) (before .states) = ap (λ (b : Buffers). b .states) after-is in
+        e ∙ (sym (written-again (statesOf file) (before .states)) ∙ ap (written (statesOf file)) (sym e))
 
-    pub first-verdicts : (n : ℕ) → n ≡ length (verdictsOf file) → take n (after .verdicts) ≡ verdictsOf file
-    first-verdicts n e = ap (λ (b : Buffers). take n (b .verdicts)) after-is ∙ take-at (verdictsOf file) (drop (length (verdictsOf file)) (before .verdicts)) n (sym e)
+    pub holds-marks : after .marks ≡ written (modelOf file) (after .marks)
+    holds-marks =
+        let e : after .marks ≡ written (modelOf file) (before .marks) = ap (λ (b : Buffers). b .marks) after-is in
+        e ∙ (sym (written-again (modelOf file) (before .marks)) ∙ ap (written (modelOf file)) (sym e))
 
-    accepted-is : fileAnswer file ≡ meant.accepted
+    pub holds-verdicts : after .verdicts ≡ written (verdictsOf file) (after .verdicts)
+    holds-verdicts =
+        let e : after .verdicts ≡ written (verdictsOf file) (before .verdicts) = ap (λ (b : Buffers). b .verdicts) after-is in
+        e ∙ (sym (written-again (verdictsOf file) (before .verdicts)) ∙ ap (written (verdictsOf file)) (sym e))
+
+    pub accepted-is : fileAnswer file ≡ meant.accepted
     accepted-is = hands-back-zero .0 z .0
 
     module _ (bytes : Bytes file) where

@@ -11,7 +11,7 @@ use Rattle.meaning.specs.Cells.{start}
 use Rattle.meaning.specs.Clauses.{marked, isOpen}
 use Rattle.meaning.specs.Refusals.{accepted}
 use Rattle.meaning.specs.Files.{fileAnswer}
-use Rattle.meaning.specs.Calls.{statesOf, tablesOf, roundsOf, atomsOf, written, filled, Buffers, Analysed}
+use Rattle.meaning.specs.Calls.{statesOf, tablesOf, roundsOf, modelOf, atomsOf, verdictsOf, written, filled, Buffers, Analysed}
 use Rattle.refusals.specs.declared.Known.{Known}
 use Rattle.refusals.specs.Known.{Knows, fieldsRead}
 use Rattle.refusals.specs.Tests.{knownSymbols, knownPredicates}
@@ -63,3 +63,11 @@ Queries types arities preds contents = All (λ (c : List ℕ). T (isSome (readQu
 abbrev pub verdictIn : ℕ → ℕ → List ℕ → List ℕ → List ℕ → List ℕ → List ℕ → List ℕ → ℕ
 verdictIn types m sets arities tables preds marks content =
     bit (isOpen sets m (lookUp m arities tables) (marked m preds marks) (queryOf types arities preds content))
+
+-- buffers that an analysis of an accepted file has filled, with m states
+pub record Filled (file : List ℕ) (m : ℕ) (states marks verdicts : List ℕ) : Type 0 where
+  pub answer : fileAnswer file ≡ accepted
+  pub count : m ≡ length (statesOf file)
+  pub statesAre : states ≡ written (statesOf file) states
+  pub marksAre : marks ≡ written (modelOf file) marks
+  pub verdictsAre : verdicts ≡ written (verdictsOf file) verdicts

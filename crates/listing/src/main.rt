@@ -1,0 +1,151 @@
+// Reads a rule file on standard input and prints its listing: its states, model and verdicts, or its refusal.
+use libc::STDIN_FILENO;
+use libc::STDOUT_FILENO;
+use refusals::Known;
+ghost use Prim.Native.Nat.{_+_, _≤_};
+ghost use mathlib.Core.Path.{_≡_};
+ghost use lib.ListN.{length};
+ghost use Rattle.meaning.specs.Calls.{roundsOf, atomsOf};
+ghost use Rattle.refusals.specs.Known.{Knows, fieldsRead};
+ghost use Rattle.lines.specs.Listing.{Results};
+ghost use Rattle.analysis.specs.Given.{Filled};
+
+fn wide(b: u8) -> usize
+    ensures { λ r. ⌜ r ≡ b ⌝ }
+{
+    b as usize
+}
+
+fn print_refusal(number: usize, place: usize, out: &mut [u8])
+    requires { ⌜ 128 ≤ length (now out) ⌝ }
+{
+    let n = lines::put_refusal(out, 0, number, place);
+    io::write_all(STDOUT_FILENO, &out[..n]);
+}
+
+// Where the next piece is put: after the last one, or at the start of the buffer, which is written out where it has no room for a piece.
+fn flush(out: &[u8], at: usize) -> usize
+    requires { ⌜ (at ≤ length (now out)) × (128 ≤ length (now out)) ⌝ }
+    ensures { λ r. ⌜ r + 128 ≤ length (now (out .entry)) ⌝ }
+{
+    if out.len() - at < 128 {
+        io::write_all(STDOUT_FILENO, &out[..at]);
+        return 0;
+    }
+    at
+}
+
+// The pieces of the listing one after the other, as many at a time as the buffer holds.
+fn print_pieces(
+    file: &[u8],
+    known: Known,
+    states: &[u16],
+    marks: &[u8],
+    verdicts: &[u8],
+    atoms: usize,
+    rounds: usize,
+    out: &mut [u8],
+)
+    requires { ⌜ Results (now file) (now states) (now marks) (now verdicts) × Knows known (fieldsRead (now file)) × (atoms ≡ length (atomsOf (now file))) × (rounds ≡ roundsOf (now file)) × (128 ≤ length (now out)) ⌝ }
+{
+    let count = lines::piece_count(file, states, marks, verdicts);
+    let mut at = 0;
+    let mut k = 0;
+    while k < count {
+        let next = flush(out, at);
+        at = lines::put_piece(
+            out,
+            next,
+            k,
+            file,
+            known,
+            states,
+            marks,
+            verdicts,
+            atoms,
+            rounds,
+        );
+        k += 1;
+    }
+    io::write_all(STDOUT_FILENO, &out[..at]);
+}
+
+// The listing of an accepted file, from the buffers that its analysis filled.
+fn print_results(
+    file: &[u8],
+    m: usize,
+    states: &[u16],
+    marks: &[u8],
+    verdicts: &[u8],
+    atoms: usize,
+    rounds: usize,
+    out: &mut [u8],
+)
+    requires { ⌜ Filled (now file) m (now states) (now marks) (now verdicts) × (atoms ≡ length (atomsOf (now file))) × (rounds ≡ roundsOf (now file)) × (128 ≤ length (now out)) ⌝ }
+{
+    let reading = rules::read(file);
+    let known = reading.known;
+    let counts = known.counts;
+    let predicates = known.predicates;
+    let p = wide(counts[4]);
+    let queries = wide(counts[6]);
+    let size = cells::cells_of(&predicates[..p], m);
+    print_pieces(
+        file,
+        known,
+        &states[..m],
+        &marks[..size],
+        &verdicts[..queries],
+        atoms,
+        rounds,
+        out,
+    );
+}
+
+// The listing of a file, by its analysis in the lent buffers.
+fn list(
+    file: &[u8],
+    states: &mut [u16],
+    tables: &mut [u8],
+    marks: &mut [u8],
+    verdicts: &mut [u8],
+    out: &mut [u8],
+)
+    requires { ⌜ 128 ≤ length (now out) ⌝ }
+{
+    let r = analysis::analyse(file, states, tables, marks, verdicts);
+    let answer = r.answer;
+    if answer.number != 0 {
+        print_refusal(answer.number, answer.place, out);
+        return;
+    }
+    print_results(
+        file,
+        r.states,
+        states,
+        marks,
+        verdicts,
+        r.atoms,
+        r.rounds,
+        out,
+    );
+}
+
+// Buffers for 16 states, 24 symbols of arity 2, 16 predicates of arity 3 and 32 queries.
+fn main() {
+    let mut file = io::large_buffer();
+    let n = io::read_full(STDIN_FILENO, &mut file);
+    let mut states = [0u16; 16];
+    let mut tables = [0u8; 6144];
+    let mut marks = [0u8; 65536];
+    let mut verdicts = [0u8; 32];
+    let mut out = io::buffer();
+    list(
+        &file[..n],
+        &mut states,
+        &mut tables,
+        &mut marks,
+        &mut verdicts,
+        &mut out,
+    );
+}
