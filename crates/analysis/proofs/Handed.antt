@@ -1,21 +1,20 @@
 -- What is handed on of an accepted file is what the model and the verdicts ask for, and gives those that `meaning` fixes. Assumes nothing.
-use Prim.Native.Nat.{ℕ, zero, suc, _≤_, _<_}
+use Prim.Native.Nat.{ℕ, suc, _≤_, _<_}
 use mathlib.Core.Path.{_≡_, refl, sym, ap, ap₂, subst, subst₂, _∙_}
-use mathlib.Core.Logic.{_↔_}
 use mathlib.Core.List.{List, [], _∷_, _++_, map, List·Memᴰ, List·Memᴰ·head, List·Memᴰ·tail}
 use mathlib.Core.Option.{Option, none, some, Option·getD}
-use native.Mathlib.Nat.{le-trans, zero-lt-suc, not-suc-le-zero}
+use native.Mathlib.Nat.{le-trans, zero-lt-suc}
 use native.Mathlib.Omega.{arith}
 use lib.Dec.{T, lit≤, lit<}
-use lib.ListN.{length, getD, take, drop, length-append, length-map}
+use lib.ListN.{length, getD, drop, length-append, length-map}
 use Rattle.meaning.specs.Lists.{All}
-use Rattle.meaning.specs.Syntax.{Clause, Query, node, leaf}
-use Rattle.meaning.specs.Limits.{mostStates, symbol, predicate, clause, query, mostOf, mostPredicateArity}
+use Rattle.meaning.specs.Syntax.{Query, node, leaf}
+use Rattle.meaning.specs.Limits.{symbol, predicate, clause, query, mostOf, mostPredicateArity}
 use Rattle.meaning.specs.Fields.{fields}
 use Rattle.meaning.specs.Legal.{Declared, WellClause, WellQuery}
 use Rattle.meaning.specs.Contents.{isSome, readClause, readQuery}
-use Rattle.meaning.specs.Refusals.{accepted, contents, aritiesIn, typesIn, firstByte}
-use Rattle.meaning.specs.Types.{bit, IsGround}
+use Rattle.meaning.specs.Refusals.{accepted, contents, aritiesIn, firstByte}
+use Rattle.meaning.specs.Types.{bit}
 use Rattle.meaning.specs.Cells.{start, cells}
 use Rattle.meaning.specs.Clauses.{marked, model, rounds, isOpen}
 use Rattle.meaning.specs.Certificates.{markedAtoms}

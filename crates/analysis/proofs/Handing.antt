@@ -1,19 +1,18 @@
 -- What is handed on, by the names that the code has for it. Assumes nothing.
-use Prim.Native.Nat.{ℕ, _≤_, _<_}
+use Prim.Native.Nat.{ℕ, _≤_}
 use mathlib.Core.Path.{_≡_, refl, sym, ap, ap₂, subst, _∙_}
-use mathlib.Core.List.{List, [], map}
+use mathlib.Core.List.{List, map}
 use native.Mathlib.Nat.{le-trans}
 use native.Mathlib.Omega.{arith}
 use lib.Dec.{lit≤}
 use lib.ListN.{length, getD, take, drop, length-append}
 use lib.Seq.{take-at}
 use Rattle.meaning.specs.Lists.{All}
-use Rattle.meaning.specs.Cells.{start, cells}
+use Rattle.meaning.specs.Cells.{cells}
 use Rattle.meaning.specs.Clauses.{model, rounds}
 use Rattle.meaning.specs.Certificates.{markedAtoms}
-use Rattle.meaning.specs.Calls.{predicateArities, statesOf, tablesOf, roundsOf, modelOf, atomsOf, verdictsOf, written}
+use Rattle.meaning.specs.Calls.{statesOf, tablesOf, roundsOf, modelOf, atomsOf, verdictsOf, written}
 use Rattle.meaning.proofs.Lists.{All-map}
-use Rattle.meaning.proofs.Stages.{length-stage}
 use Rattle.refusals.specs.declared.Known.{Known}
 use Rattle.refusals.specs.Tests.{knownTypes, knownSymbols, knownPredicates, earlierIn}
 use Rattle.accept.proofs.Answering.{accepted-read, accepted-few}

@@ -1,7 +1,7 @@
 -- The parts of the filled buffers that hold an accepted file's states, model and verdicts. Assumes nothing.
 use Prim.Native.Nat.{ℕ, _≤_}
 use mathlib.Core.Path.{_≡_, sym, ap, subst, _∙_}
-use mathlib.Core.List.{List, _++_}
+use mathlib.Core.List.{List}
 use native.Mathlib.Omega.{arith}
 use lib.ListN.{length, getD, take, drop, length-append}
 use lib.Seq.{take-at}
@@ -10,7 +10,6 @@ use Rattle.meaning.specs.Cells.{cells}
 use Rattle.meaning.specs.Calls.{statesOf, modelOf, verdictsOf, written}
 use Rattle.refusals.specs.declared.Known.{Known}
 use Rattle.refusals.specs.Known.{Knows, fieldsRead}
-use Rattle.refusals.specs.Tests.{knownPredicates}
 use Rattle.accept.proofs.Answering.{accepted-few}
 use Rattle.analysis.specs.Given.{Filled}
 use Rattle.analysis.proofs.Handed.{few-predicates, fit-predicates, model-size, verdicts-needed, predicates-fit}

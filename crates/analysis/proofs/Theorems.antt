@@ -2,9 +2,9 @@
 -- ties to the file. Assumes nothing.
 use Prim.Native.Nat.{ℕ, zero, suc, _+_, _≤_, _<_}
 use mathlib.Core.Path.{_≡_, refl, sym, ap, subst, _∙_}
-use mathlib.Core.Logic.{_⊎_, inl, inr, ⊎-elim, _↔_, _≢_}
+use mathlib.Core.Logic.{_⊎_, inl, inr, _↔_, _≢_}
 use mathlib.Core.Bool.{Bool, not, _&&_}
-use mathlib.Core.List.{List, [], _∷_, _++_, map, List·Memᴰ, List·Memᴰ·head, List·Memᴰ·tail}
+use mathlib.Core.List.{List, [], _∷_, map, List·Memᴰ, List·Memᴰ·head, List·Memᴰ·tail}
 use native.Mathlib.Nat.{le-of-suc-le-suc, not-suc-le-zero}
 use native.Mathlib.Omega.{arith}
 use lib.Dec.{T, eqb, leb, le→leb}
@@ -13,7 +13,7 @@ use lib.Seq.{take-at}
 use Rattle.meaning.specs.Syntax.{Tree, Trees, node, treeCount, Query}
 use Rattle.meaning.specs.Legal.{Declared}
 use Rattle.meaning.specs.Types.{IsGround, AreGround, typesOf}
-use Rattle.meaning.specs.Cells.{cell, start, cells}
+use Rattle.meaning.specs.Cells.{cell, start}
 use Rattle.meaning.specs.Clauses.{AtomSet, IsAtom, marked, place, Closed, stage, model, Open}
 use Rattle.meaning.specs.Ground.{NoneDerivable}
 use Rattle.meaning.specs.Fields.{Bytes}

@@ -10,7 +10,7 @@ use native.Mathlib.Omega.{arith}
 use lib.Dec.{T, eqb, ltb, ltb→lt, lt→ltb, nltb→le, eqb→eq}
 use lib.Arith.{le→nltb}
 use lib.ListN.{length, getD, take}
-use Rattle.meaning.specs.Lists.{any, lowest}
+use Rattle.meaning.specs.Lists.{any}
 use Rattle.meaning.specs.Limits.{mostFileBytes, mostStates}
 use Rattle.meaning.specs.Fields.{Field, cut, fields, firstField}
 use Rattle.meaning.specs.Refusals.{Answer, refused, accepted, ok, andThen, refuseIf, isRefused, isCut, wrongTag, tooMany, malformed, nameTaken, refusal, firstRefused, noConstant}

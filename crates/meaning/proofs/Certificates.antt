@@ -16,7 +16,6 @@ use Rattle.meaning.specs.Lists.{any, all, All, same, lowest, joined}
 use Rattle.meaning.specs.Syntax.{Clause}
 use Rattle.meaning.specs.Limits.{stateTag, atomTag}
 use Rattle.meaning.specs.Fields.{Bytes, Field, whole, cut, word, fields, contentsOf, encodeField, firstField}
-use Rattle.meaning.specs.Contents.{declared}
 use Rattle.meaning.specs.Refusals.{Answer, refused, accepted, isCut}
 use Rattle.meaning.specs.Legal.{NoneTwice}
 use Rattle.meaning.specs.Cells.{rowOf}

@@ -487,8 +487,5 @@ isProduction-exact types arities (target ∷ symbol ∷ arguments) = (
 )
 
 -- what is read is well formed
-pub clause-well : (arities preds content : List ℕ) (c : Clause) → readClause arities preds content ≡ some c → WellClause arities preds c
-clause-well arities preds content c e = post-at (λ (d : Clause). (content ≡ encodeClause d) × WellClause arities preds d) e (clause-post arities preds content) .1
-
 pub query-well : (types : ℕ) (arities preds content : List ℕ) (q : Query) → readQuery types arities preds content ≡ some q → WellQuery types arities preds q
 query-well types arities preds content q e = post-at (λ (d : Query). (content ≡ encodeQuery d) × WellQuery types arities preds d) e (query-post types arities preds content) .1

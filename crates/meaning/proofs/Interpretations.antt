@@ -7,7 +7,7 @@ use mathlib.Core.Option.{Option·getD}
 use native.Mathlib.Omega.{arith}
 use lib.Dec.{eqb}
 use lib.ListN.{length}
-use Rattle.meaning.specs.Lists.{any, all, anyBelow, All, same, lowest, table}
+use Rattle.meaning.specs.Lists.{all, anyBelow, All, same, lowest, table}
 use Rattle.meaning.specs.Syntax.{Term, Terms, var, app, end, _▸_, Atom, Clause, Query}
 use Rattle.meaning.specs.Legal.{Declared, WellTerm, WellTerms, WellAtom, WellClause, WellQuery}
 use Rattle.meaning.specs.Types.{bit}

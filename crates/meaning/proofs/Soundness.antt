@@ -2,7 +2,6 @@
 -- set has no derivable ground instance that meets its conditions. Assumes nothing.
 use Prim.Native.Nat.{ℕ, suc, _<_, suc-le-suc}
 use mathlib.Core.Path.{_≡_, refl, sym, ap, ap₂, subst, _∙_}
-use mathlib.Core.Bool.{not}
 use mathlib.Core.List.{List, [], _∷_, List·Memᴰ}
 use native.Mathlib.Nat.{zero-lt-suc}
 use lib.Dec.{T}

@@ -15,7 +15,7 @@ use Rattle.meaning.specs.Limits.{mostStates, stateTag, atomTag}
 use Rattle.meaning.specs.Legal.{Legal, Declared, NoneTwice, WellClause, WellQuery}
 use Rattle.meaning.specs.Types.{has, bit, IsGround, AreGround, OfType, typesOf}
 use Rattle.meaning.specs.Cells.{cell, start, cells}
-use Rattle.meaning.specs.States.{indexOf, tables}
+use Rattle.meaning.specs.States.{indexOf}
 use Rattle.meaning.specs.Clauses.{AtomSet, IsAtom, place, marked, Closed, stage, rounds, model, Open, isOpen}
 use Rattle.meaning.specs.Clauses as Clauses
 use Rattle.meaning.specs.Ground.{NoneDerivable}

@@ -1,18 +1,18 @@
 -- The masks of the stage stand in the first half, so that an atom shows in them whatever becomes of the second; and masks that lose nothing show what they
 -- showed. Assumes nothing.
 use Prim.Native.Nat.{ℕ, zero, suc, _+_, _*_, _^_, _-_, _≤_, _<_}
-use mathlib.Core.Path.{_≡_, refl, sym, ap, subst, _∙_}
+use mathlib.Core.Path.{_≡_, refl, sym, ap, subst}
 use mathlib.Core.Logic.{⊎-elim}
-use mathlib.Core.List.{List, [], _∷_, _++_}
-use native.Mathlib.Nat.{le-of-suc-le-suc, not-suc-le-zero, mul-le-mul-right, add-mul}
+use mathlib.Core.List.{List, [], _∷_}
+use native.Mathlib.Nat.{le-of-suc-le-suc, not-suc-le-zero}
 use native.Mathlib.Omega.{arith}
 use lib.Dec.{T}
-use lib.ListN.{length, getD, take, drop, length-append}
+use lib.ListN.{length, getD}
 use Rattle.meaning.specs.Lists.{All}
 use Rattle.meaning.specs.Types.{has}
 use Rattle.meaning.specs.Cells.{cell}
 use Rattle.meaning.proofs.Cells.{cell-lt}
-use Rattle.masks.specs.Masks.{wild, maskPlace, without, Covers, Shown, Keeps}
+use Rattle.masks.specs.Masks.{maskPlace, without, Covers, Shown, Keeps}
 use Rattle.stages.specs.Search.{predicateMasks, stageMasks, fullFirst}
 
 covers-length : (others row : List ℕ) → Covers others row → length others ≡ length row

@@ -16,21 +16,13 @@ use Rattle.analysis.proofs.Ends.{file-refused, sets-fit}
 use borrow.Author.Needs.{needs}
 use Rattle.analysis.proofs.analyse.Statement.{statement}
 use Rattle.analysis.proofs.analyse.Tie as tie
-use Rattle.analysis.proofs.analyse.Reads as reads
-use Rattle.analysis.proofs.analyse.Lts as lts
-use Rattle.accept.proofs.accept.Reads as accept-reads
-use Rattle.analysis.proofs.proceed.Reads as proceed-reads
-use Rattle.analysis.proofs.refused.Reads as refused-reads
 
--- src/lib.rt:331:9
 accept-requires : tie.Need-accept-requires
 accept-requires c κs = tt
 
--- src/lib.rt:334:9
 refused-requires : tie.Need-refused-requires
 refused-requires c κs = tt
 
--- src/lib.rt:334:9
 returns : tie.Need-returns
 returns c =
     let x = c .before .before .before .before .before .before .before .before .before .before in
@@ -46,51 +38,39 @@ is-accepted c =
 states-are : (c : tie.Else1) → c .before .before .before .accept .result .states ≡ packed (statesOf (c .before .before .before .before .before .before .before .before .before .args .file .now))
 states-are c = let file = c .before .before .before .before .before .before .before .before .before .args .file .now in c .before .before .before .accept .ensures .2 ∙ sym (read-states file (accepted-read file (is-accepted c)))
 
--- src/lib.rt:340:22
 enum-known-count : tie.Need-enum-known-count
 enum-known-count c = search needs
 
--- src/lib.rt:342:34
 array-share-prefix-sets : tie.Need-array-share-prefix-sets
 array-share-prefix-sets c = sets-fit (statesOf (c .before .before .before .before .before .before .before .before .before .before .before .before .before .before .before .args .file .now)) (states-are (c .before .before .before .before .before .before)) (c .before .before .count .given .1)
 
--- src/lib.rt:342:34
 slice-aggregate-proceed : tie.Need-slice-aggregate-proceed
 slice-aggregate-proceed c = sym (length-take-le (c .before .before .before .count .given .0 .0) (c .before .before .before .before .before .before .before .before .before .before .accept .result .states .sets) (sets-fit (statesOf (c .before .before .before .before .before .before .before .before .before .before .before .before .before .before .before .before .args .file .now)) (states-are (c .before .before .before .before .before .before .before)) (c .before .before .before .count .given .1)))
 
--- src/lib.rt:342:13
 proceed-requires : tie.Need-proceed-requires
 proceed-requires c κs = (is-accepted (c .before .before .before .before .before .before .before .before .before .before .before), c .before .before .before .before .before .before .before .before .before .before .before .before .before .before .accept .ensures .1, known-sets (statesOf (c .before .before .before .before .before .before .before .before .before .before .before .before .before .before .before .before .before .before .before .before .args .file .now)) (states-are (c .before .before .before .before .before .before .before .before .before .before .before)) (c .before .before .before .before .before .before .before .count .given .1))
 
--- src/lib.rt:344:27
 enum-told : tie.Need-enum-told
 enum-told c = search needs
 
--- src/lib.rt:344:27
 refused-requires-2 : tie.Need-refused-requires-2
 refused-requires-2 c κs = tt
 
--- src/lib.rt:322:1
 same-length : tie.Need-same-length
 same-length c = search needs
 
--- src/lib.rt:322:1
 same-length-2 : tie.Need-same-length-2
 same-length-2 c = search needs
 
--- src/lib.rt:322:1
 same-length-3 : tie.Need-same-length-3
 same-length-3 c = search needs
 
--- src/lib.rt:322:1
 same-length-4 : tie.Need-same-length-4
 same-length-4 c = search needs
 
--- src/lib.rt:322:1
 returns-2 : tie.Need-returns-2
 returns-2 c = c .before .before .before .before .before .before .before .before .proceed .ensures
 
--- src/lib.rt:322:1
 returns-3 : tie.Need-returns-3
 returns-3 c =
     let file = c .before .before .before .before .before .before .before .before .before .before .before .before .before .before .args .file .now in

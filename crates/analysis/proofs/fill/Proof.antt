@@ -1,6 +1,6 @@
 -- `analysis::fill` meets its contract. Assumes nothing.
 use Prim.Native.Nat.{ℕ, _≤_}
-use mathlib.Core.Path.{_≡_, sym, ap, subst, _∙_}
+use mathlib.Core.Path.{sym, ap, subst, _∙_}
 use mathlib.Core.List.{List}
 use native.Mathlib.Nat.{le-trans}
 use borrow.Author.Needs.{needs}
@@ -15,16 +15,7 @@ use Rattle.analysis.proofs.Handed.{few-symbols, narrow-symbols, few-pre
 use borrow.Author.Needs.{needs}
 use Rattle.analysis.proofs.fill.Statement.{statement}
 use Rattle.analysis.proofs.fill.Tie as tie
-use Rattle.analysis.proofs.fill.Reads as reads
-use Rattle.analysis.proofs.fill.Lts as lts
-use Rattle.accept.proofs.no_refusal.Reads as no-refusal-reads
-use Rattle.accept.proofs.write_tables.Reads as write-tables-reads
-use Rattle.analysis.proofs.starts_of.Reads as starts-of-reads
-use Rattle.analysis.proofs.write_model.Reads as write-model-reads
-use Rattle.analysis.proofs.write_open.Reads as write-open-reads
-use Rattle.analysis.proofs.write_states.Reads as write-states-reads
 
--- src/lib.rt:241:18
 starts-of-requires : tie.Need-starts-of-requires
 starts-of-requires c κs =
     let x = c .before .before .before .before .before .before .before .before in
@@ -36,7 +27,6 @@ starts-of-requires c κs =
       subst (All (λ n. n ≤ 4)) (sym (p .3)) (narrow-symbols file known (p .0) (p .1)),
     )
 
--- src/lib.rt:242:20
 starts-of-requires-2 : tie.Need-starts-of-requires-2
 starts-of-requires-2 c κs =
     let x = c .before .before .before .before .before .before .before .before .before in
@@ -48,11 +38,9 @@ starts-of-requires-2 c κs =
       subst (All (λ n. n ≤ 4)) (sym (p .4)) (fit-predicates file known (p .0) (p .1)),
     )
 
--- src/lib.rt:243:5
 write-states-requires : tie.Need-write-states-requires
 write-states-requires c κs = let p = c .before .before .before .before .before .before .before .before .before .before .before .pre in subst (λ (l : List ℕ). length l ≤ length (c .before .before .before .before .before .before .before .before .before .before .before .args .states .now)) (sym (p .0 .2)) (p .1 .0)
 
--- src/lib.rt:244:5
 write-tables-requires : tie.Need-write-tables-requires
 write-tables-requires c κs = let p = c .before .before .before .before .before .before .before .before .before .before .before .before .before .before .before .pre in ((p .0 .0, p .0 .1), (p .0 .2, p .1 .1))
 
@@ -72,27 +60,21 @@ handed c =
       table = c .write-tables .ensures ∙ (sym (written-again (tablesOf (x .args .file .now)) (x .args .tables .now)) ∙ ap (written (tablesOf (x .args .file .now))) (sym (c .write-tables .ensures)));
     }
 
--- src/lib.rt:252:9
 slice-aggregate-write-model : tie.Need-slice-aggregate-write-model
 slice-aggregate-write-model c = search needs
 
--- src/lib.rt:253:9
 slice-aggregate-write-model-2 : tie.Need-slice-aggregate-write-model-2
 slice-aggregate-write-model-2 c = search needs
 
--- src/lib.rt:245:9
 write-model-requires : tie.Need-write-model-requires
 write-model-requires c κs = (handed (c .before .before .before .before .before .before), c .before .before .before .before .before .before .before .before .before .before .before .before .before .before .before .before .before .before .before .before .before .before .pre .1 .2)
 
--- src/lib.rt:263:9
 slice-aggregate-write-open : tie.Need-slice-aggregate-write-open
 slice-aggregate-write-open c = search needs
 
--- src/lib.rt:264:9
 slice-aggregate-write-open-2 : tie.Need-slice-aggregate-write-open-2
 slice-aggregate-write-open-2 c = search needs
 
--- src/lib.rt:256:5
 write-open-requires : tie.Need-write-open-requires
 write-open-requires c κs =
     let x = c .before .before .before .before .before .before .before .before .before .before .before .before .before .before .before .before .before .before .before .before .before .before .before .before .before .before .before .before .before .before in
@@ -104,27 +86,21 @@ write-open-requires c κs =
       x .pre .1 .3,
     )
 
--- src/lib.rt:269:17
 no-refusal-requires : tie.Need-no-refusal-requires
 no-refusal-requires c κs = tt
 
--- src/lib.rt:225:1
 same-length : tie.Need-same-length
 same-length c = search needs
 
--- src/lib.rt:225:1
 same-length-2 : tie.Need-same-length-2
 same-length-2 c = search needs
 
--- src/lib.rt:225:1
 same-length-3 : tie.Need-same-length-3
 same-length-3 c = search needs
 
--- src/lib.rt:225:1
 same-length-4 : tie.Need-same-length-4
 same-length-4 c = search needs
 
--- src/lib.rt:225:1
 returns : tie.Need-returns
 returns c =
     let x = c .before .before .before .before .before .before .before .before .before .before .before .before .before .before .before .before .before .before .before .before .before .before .before .before .before .before .before .before .before .before .before .before .before .before in

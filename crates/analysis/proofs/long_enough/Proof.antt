@@ -1,27 +1,18 @@
 -- `analysis::long_enough` meets its contract. Assumes nothing.
 use mathlib.Core.Bool.{_&&_}
 use lib.Dec.{leb}
-use borrow.Author.Needs.{needs}
 use Rattle.analysis.proofs.long_enough.Statement.{statement}
 use Rattle.analysis.proofs.long_enough.Tie as tie
-use Rattle.analysis.proofs.long_enough.Reads as reads
-use Rattle.analysis.proofs.long_enough.Lts as lts
-use Rattle.analysis.proofs.wide.Reads as wide-reads
-use Rattle.cells.proofs.cells_of.Reads as cells-of-reads
 
--- src/lib.rt:97:12
 cells-of-requires : tie.Need-cells-of-requires
 cells-of-requires c κs = let p = c .before .before .pre in (p .0, p .1, p .2)
 
--- src/lib.rt:98:12
 cells-of-requires-2 : tie.Need-cells-of-requires-2
 cells-of-requires-2 c κs = let p = c .before .before .before .pre in (p .0, p .3, p .4)
 
--- src/lib.rt:99:12
 wide-requires : tie.Need-wide-requires
 wide-requires c κs = tt
 
--- src/lib.rt:83:1
 returns : tie.Need-returns
 returns c =
     let a = c .before .before .before .before .before .args in

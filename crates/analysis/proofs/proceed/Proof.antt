@@ -21,31 +21,19 @@ use Rattle.analysis.proofs.Ends.{too-short, done, enough-is, room}
 use borrow.Author.Needs.{needs}
 use Rattle.analysis.proofs.proceed.Statement.{statement}
 use Rattle.analysis.proofs.proceed.Tie as tie
-use Rattle.analysis.proofs.proceed.Reads as reads
-use Rattle.analysis.proofs.proceed.Lts as lts
-use Rattle.accept.proofs.refusal.Reads as refusal-reads
-use Rattle.analysis.proofs.fill.Reads as fill-reads
-use Rattle.analysis.proofs.long_enough.Reads as long-enough-reads
-use Rattle.analysis.proofs.refused.Reads as refused-reads
-use Rattle.analysis.proofs.wide.Reads as wide-reads
 
--- src/lib.rt:292:18
 array-read-wide : tie.Need-array-read-wide
 array-read-wide c = search needs
 
--- src/lib.rt:292:9
 wide-requires : tie.Need-wide-requires
 wide-requires c κs = tt
 
--- src/lib.rt:293:18
 array-read-wide-2 : tie.Need-array-read-wide-2
 array-read-wide-2 c = search needs
 
--- src/lib.rt:293:9
 wide-requires-2 : tie.Need-wide-requires-2
 wide-requires-2 c κs = tt
 
--- src/lib.rt:295:9
 array-share-prefix-symbols : tie.Need-array-share-prefix-symbols
 array-share-prefix-symbols c =
     let x = c .before .before .before .before .before .before .before .before .before .before .before in
@@ -54,7 +42,6 @@ array-share-prefix-symbols c =
     let e = x .pre .0 in
     omega (arith, c .before .wide .ensures, symbols-fit file known (accepted-read file e) (x .pre .1))
 
--- src/lib.rt:295:9
 slice-aggregate-long-enough : tie.Need-slice-aggregate-long-enough
 slice-aggregate-long-enough c =
     let x = c .before .before .before .before .before .before .before .before .before .before .before .before in
@@ -63,7 +50,6 @@ slice-aggregate-long-enough c =
     let e = x .pre .0 in
     sym (length-take-le (c .before .before .wide .result) (known .symbols) (omega (arith, c .before .before .wide .ensures, symbols-fit file known (accepted-read file e) (x .pre .1))))
 
--- src/lib.rt:296:9
 array-share-prefix-predicates : tie.Need-array-share-prefix-predicates
 array-share-prefix-predicates c =
     let x = c .before .before .before .before .before .before .before .before .before .before .before .before in
@@ -72,7 +58,6 @@ array-share-prefix-predicates c =
     let e = x .pre .0 in
     omega (arith, c .before .wide2 .ensures, predicates-fit file known e (x .pre .1))
 
--- src/lib.rt:296:9
 slice-aggregate-long-enough-2 : tie.Need-slice-aggregate-long-enough-2
 slice-aggregate-long-enough-2 c =
     let x = c .before .before .before .before .before .before .before .before .before .before .before .before .before in
@@ -81,11 +66,9 @@ slice-aggregate-long-enough-2 c =
     let e = x .pre .0 in
     sym (length-take-le (c .before .before .wide2 .result) (known .predicates) (omega (arith, c .before .before .wide2 .ensures, predicates-fit file known e (x .pre .1))))
 
--- src/lib.rt:297:9
 array-read-long-enough : tie.Need-array-read-long-enough
 array-read-long-enough c = search needs
 
--- src/lib.rt:294:9
 long-enough-requires : tie.Need-long-enough-requires
 long-enough-requires c κs =
     let x = c .before .before .before .before .before .before .before .before .before .before .before .before .before in
@@ -120,7 +103,6 @@ enough c =
     (ap₂ (λ (l ps : List ℕ). cells (length l) ps) found preds ∙ model-size file known e knows)
     (sym (verdicts-needed file known e knows))
 
--- src/lib.rt:309:13
 array-share-prefix-symbols-2 : tie.Need-array-share-prefix-symbols-2
 array-share-prefix-symbols-2 c =
     let x = c .before .before .before .before .before .before .before .before .before .before .before .before .before .before .before in
@@ -129,7 +111,6 @@ array-share-prefix-symbols-2 c =
     let e = x .pre .0 in
     omega (arith, c .before .before .before .before .before .wide .ensures, symbols-fit file known (accepted-read file e) (x .pre .1))
 
--- src/lib.rt:309:13
 slice-aggregate-fill : tie.Need-slice-aggregate-fill
 slice-aggregate-fill c =
     let x = c .before .before .before .before .before .before .before .before .before .before .before .before .before .before .before .before in
@@ -138,7 +119,6 @@ slice-aggregate-fill c =
     let e = x .pre .0 in
     sym (length-take-le (c .before .before .before .before .before .before .wide .result) (known .symbols) (omega (arith, c .before .before .before .before .before .before .wide .ensures, symbols-fit file known (accepted-read file e) (x .pre .1))))
 
--- src/lib.rt:310:13
 array-share-prefix-predicates-2 : tie.Need-array-share-prefix-predicates-2
 array-share-prefix-predicates-2 c =
     let x = c .before .before .before .before .before .before .before .before .before .before .before .before .before .before .before .before in
@@ -147,7 +127,6 @@ array-share-prefix-predicates-2 c =
     let e = x .pre .0 in
     omega (arith, c .before .before .before .before .before .wide2 .ensures, predicates-fit file known e (x .pre .1))
 
--- src/lib.rt:310:13
 slice-aggregate-fill-2 : tie.Need-slice-aggregate-fill-2
 slice-aggregate-fill-2 c =
     let x = c .before .before .before .before .before .before .before .before .before .before .before .before .before .before .before .before .before in
@@ -156,7 +135,6 @@ slice-aggregate-fill-2 c =
     let e = x .pre .0 in
     sym (length-take-le (c .before .before .before .before .before .before .wide2 .result) (known .predicates) (omega (arith, c .before .before .before .before .before .before .wide2 .ensures, predicates-fit file known e (x .pre .1))))
 
--- src/lib.rt:305:9
 fill-requires : tie.Need-fill-requires
 fill-requires c κs =
     let x = c .before .before .before .before .before .before .before .before .before .before .before .before .before .before .before .before .before .before .before .before .before in
@@ -168,37 +146,29 @@ fill-requires c κs =
       room file (record { states = x .args .states .now; tables = x .args .tables .now; marks = x .args .marks .now; verdicts = x .args .verdicts .now }) (T-of _ long),
     )
 
--- src/lib.rt:317:17
 refusal-requires : tie.Need-refusal-requires
 refusal-requires c κs = tt
 
--- src/lib.rt:317:9
 refused-requires : tie.Need-refused-requires
 refused-requires c κs = tt
 
--- src/lib.rt:277:1
 same-length : tie.Need-same-length
 same-length c = search needs
 
--- src/lib.rt:277:1
 same-length-2 : tie.Need-same-length-2
 same-length-2 c = search needs
 
--- src/lib.rt:277:1
 same-length-3 : tie.Need-same-length-3
 same-length-3 c = search needs
 
--- src/lib.rt:277:1
 same-length-4 : tie.Need-same-length-4
 same-length-4 c = search needs
 
--- src/lib.rt:277:1
 returns : tie.Need-returns
 returns c =
     let x = c .before .before .before .before .before .before .before .before .before .before .before .before .before .before .before .before .before .before .before .before .before .before .before .before .before .before .before .before .before .before in
     c .before .before .before .before .before .before .before .before .fill .ensures ∙ done (x .args .file .now) (record { states = x .args .states .now; tables = x .args .tables .now; marks = x .args .marks .now; verdicts = x .args .verdicts .now }) (x .pre .0) (sym (enough (c .before .before .before .before .before .before .before .before .before .before .before .before .before .before .before .before)) ∙ c .before .before .before .before .before .before .before .before .before .before .before .before .before .before .before .if1 .taken)
 
--- src/lib.rt:277:1
 returns-2 : tie.Need-returns-2
 returns-2 c =
     let x = c .before .before .before .before .before .before .before .before .before .before .before .before .before .before .before .before .before in

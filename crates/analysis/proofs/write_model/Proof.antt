@@ -13,35 +13,24 @@ use Rattle.analysis.proofs.Handing.{few-states, few-preds, narrow-preds
 use borrow.Author.Needs.{needs}
 use Rattle.analysis.proofs.write_model.Statement.{statement}
 use Rattle.analysis.proofs.write_model.Tie as tie
-use Rattle.analysis.proofs.write_model.Reads as reads
-use Rattle.analysis.proofs.write_model.Lts as lts
-use Rattle.model.proofs.run.Reads as run-reads
-use Rattle.cells.proofs.cells_of.Reads as cells-of-reads
-use Rattle.segments.proofs.count_all.Reads as count-all-reads
 
--- src/lib.rt:170:9
 cells-of-requires : tie.Need-cells-of-requires
 cells-of-requires c κs = let h = c .before .before .before .before .before .before .before .before .before .pre .0 in (few-states h, le-trans (few-preds h) (lit≤ tt), fit-preds h)
 
--- src/lib.rt:173:9
 array-read-run : tie.Need-array-read-run
 array-read-run c = search needs
 
--- src/lib.rt:174:9
 array-read-run-2 : tie.Need-array-read-run-2
 array-read-run-2 c = search needs
 
--- src/lib.rt:181:9
 slice-relend-prefix-run : tie.Need-slice-relend-prefix-run
 slice-relend-prefix-run c = let p = c .before .before .before .before .before .before .before .before .before .before .pre in omega (arith, c .cells-of .ensures, handed-size (p .0), p .1)
 
--- src/lib.rt:181:9
 slice-aggregate-run : tie.Need-slice-aggregate-run
 slice-aggregate-run c =
     let p = c .before .before .before .before .before .before .before .before .before .before .before .pre in
     sym (length-take-le (c .before .cells-of .result) (c .before .before .before .before .before .before .before .before .before .before .before .args .marks .now) (omega (arith, c .before .cells-of .ensures, handed-size (p .0), p .1)))
 
--- src/lib.rt:171:9
 run-requires : tie.Need-run-requires
 run-requires c κs =
     let p = c .before .before .before .before .before .before .before .before .before .before .before .pre in
@@ -51,25 +40,20 @@ run-requires c κs =
 part-long : (c : tie.After-run) → length (c .run .last .1 .1 .1 .1 .1 .1 .1 .1 .1 .0) ≡ c .before .before .cells-of .result
 part-long c = let h = c .before .before .before .before .before .before .before .before .before .before .before .before .pre .0 in ap length (c .run .ensures .0 ∙ handed-model h) ∙ sym (c .before .before .cells-of .ensures ∙ handed-size h)
 
--- src/lib.rt:183:37
 slice-reshare-prefix-count-all : tie.Need-slice-reshare-prefix-count-all
 slice-reshare-prefix-count-all c = part-room (c .before .before .run .last .1 .1 .1 .1 .1 .1 .1 .1 .1 .0) _ (c .before .before .before .before .cells-of .result) (part-long (c .before .before))
 
--- src/lib.rt:183:37
 slice-aggregate-count-all : tie.Need-slice-aggregate-count-all
 slice-aggregate-count-all c = part-size (c .before .before .before .run .last .1 .1 .1 .1 .1 .1 .1 .1 .1 .0) _ (c .before .before .before .before .before .cells-of .result) (part-long (c .before .before .before))
 
--- src/lib.rt:183:9
 count-all-requires : tie.Need-count-all-requires
 count-all-requires c κs =
     let h = c .before .before .before .before .before .before .before .before .before .before .before .before .before .before .before .pre .0 in
     (few-states h, narrow-preds h, sym (part-size (c .before .before .before .run .last .1 .1 .1 .1 .1 .1 .1 .1 .1 .0) _ (c .before .before .before .before .before .cells-of .result) (part-long (c .before .before .before))) ∙ c .before .before .before .before .before .cells-of .ensures)
 
--- src/lib.rt:154:1
 same-length : tie.Need-same-length
 same-length c = search needs
 
--- src/lib.rt:154:1
 returns : tie.Need-returns
 returns c =
     let x = c .before .before .before .before .before .before .before .before .before .before .before .before .before .before .before .before in

@@ -10,34 +10,24 @@ use Rattle.analysis.proofs.Handing.{few-states, few-preds, fit-preds, h
 use borrow.Author.Needs.{needs}
 use Rattle.analysis.proofs.write_open.Statement.{statement}
 use Rattle.analysis.proofs.write_open.Tie as tie
-use Rattle.analysis.proofs.write_open.Reads as reads
-use Rattle.analysis.proofs.write_open.Lts as lts
-use Rattle.analysis.proofs.write_verdicts.Reads as write-verdicts-reads
-use Rattle.cells.proofs.cells_of.Reads as cells-of-reads
 
--- src/lib.rt:206:9
 cells-of-requires : tie.Need-cells-of-requires
 cells-of-requires c κs = let h = c .before .before .before .before .before .before .before .before .before .before .before .pre .0 in (few-states h, le-trans (few-preds h) (lit≤ tt), fit-preds h)
 
--- src/lib.rt:210:9
 array-read-write-verdicts : tie.Need-array-read-write-verdicts
 array-read-write-verdicts c = search needs
 
--- src/lib.rt:211:9
 array-read-write-verdicts-2 : tie.Need-array-read-write-verdicts-2
 array-read-write-verdicts-2 c = search needs
 
--- src/lib.rt:212:9
 array-read-write-verdicts-3 : tie.Need-array-read-write-verdicts-3
 array-read-write-verdicts-3 c = search needs
 
--- src/lib.rt:220:9
 slice-aggregate-write-verdicts : tie.Need-slice-aggregate-write-verdicts
 slice-aggregate-write-verdicts c =
     let p = c .before .before .before .before .before .before .before .before .before .before .before .before .before .before .pre in
     sym (length-take-le (c .before .before .cells-of .result) (c .before .before .before .before .before .before .before .before .before .before .before .before .before .before .args .marks .now) (marks-room (p .0) (p .2) (c .before .before .cells-of .ensures)))
 
--- src/lib.rt:207:5
 write-verdicts-requires : tie.Need-write-verdicts-requires
 write-verdicts-requires c κs =
     let x = c .before .before .before .before .before .before .before .before .before .before .before .before .before .before in
@@ -48,11 +38,9 @@ write-verdicts-requires c κs =
       handed-queries h,
     )
 
--- src/lib.rt:188:1
 same-length : tie.Need-same-length
 same-length c = search needs
 
--- src/lib.rt:188:1
 returns : tie.Need-returns
 returns c =
     let x = c .before .before .before .before .before .before .before .before .before .before .before .before .before .before .before .before .before in

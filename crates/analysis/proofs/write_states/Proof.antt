@@ -8,8 +8,6 @@ use lib.ListN.{length, getD, set, length-set}
 use Rattle.analysis.proofs.Fronts.{front, front-next, front-all}
 use Rattle.analysis.proofs.write_states.Statement.{statement}
 use Rattle.analysis.proofs.write_states.Tie as tie
-use Rattle.analysis.proofs.write_states.Reads as reads
-use Rattle.analysis.proofs.write_states.Lts as lts
 
 abbrev Inv-loop : tie.InvT-loop
 Inv-loop states₀ found i₀ states i = (i ≤ length found) × (length states ≡ length states₀) × (states ≡ front found states₀ i)
@@ -17,35 +15,27 @@ Inv-loop states₀ found i₀ states i = (i ≤ length found) × (length states 
 abbrev μ-loop : tie.MeasureT-loop
 μ-loop states₀ found i₀ states i = length found - i
 
--- src/lib.rt:110:5
 loop-holds : tie.Need-loop-holds Inv-loop μ-loop
 loop-holds c = (omega arith, refl, refl)
 
--- src/lib.rt:111:21
 mul-states : tie.Need-mul-states Inv-loop μ-loop
 mul-states c = search needs
 
--- src/lib.rt:111:21
 shared-slice-read-states : tie.Need-shared-slice-read-states Inv-loop μ-loop
 shared-slice-read-states c = omega arith
 
--- src/lib.rt:111:9
 mul-states-2 : tie.Need-mul-states-2 Inv-loop μ-loop
 mul-states-2 c = search needs
 
--- src/lib.rt:111:9
 slice-write-states : tie.Need-slice-write-states Inv-loop μ-loop
 slice-write-states c = omega arith
 
--- src/lib.rt:112:9
 add-i : tie.Need-add-i Inv-loop μ-loop
 add-i c = search needs
 
--- src/lib.rt:110:5
 loop-less : tie.Need-loop-less Inv-loop μ-loop
 loop-less c = omega arith
 
--- src/lib.rt:110:5
 loop-again : tie.Need-loop-again Inv-loop μ-loop
 loop-again c =
     let a = c .before .before .before .args in
@@ -55,11 +45,9 @@ loop-again c =
       ap (λ (l : List ℕ). set l (loop .i) (getD (a .found .now) (loop .i) 0)) (loop .inv .2) ∙ front-next (a .found .now) (a .states .now) (loop .i) (omega arith) (omega arith),
     )
 
--- src/lib.rt:105:1
 same-length : tie.Need-same-length Inv-loop μ-loop
 same-length c = c .before .loop .inv .1
 
--- src/lib.rt:105:1
 returns : tie.Need-returns Inv-loop μ-loop
 returns c =
     let a = c .before .before .args in

@@ -5,7 +5,6 @@ use mathlib.Core.Path.{_≡_, refl, sym, ap, subst, _∙_}
 use mathlib.Core.List.{List, []}
 use lib.Dec.{T}
 use native.Mathlib.Omega.{arith}
-use borrow.Author.Needs.{needs}
 use lib.ListN.{length, drop, length-set}
 use Rattle.meaning.specs.Types.{bit}
 use Rattle.meaning.specs.Contents.{isSome, readQuery}
@@ -15,13 +14,6 @@ use Rattle.analysis.specs.Given.{verdictIn}
 use Rattle.analysis.proofs.Fronts.{Read, content-is, read-on, read-all}
 use Rattle.analysis.proofs.write_verdicts.Statement.{statement}
 use Rattle.analysis.proofs.write_verdicts.Tie as tie
-use Rattle.analysis.proofs.write_verdicts.Reads as reads
-use Rattle.analysis.proofs.write_verdicts.Lts as lts
-use Rattle.analysis.proofs.byte.Reads as byte-reads
-use Rattle.verdicts.proofs.is_open.Reads as is-open-reads
-use Rattle.analysis.proofs.wide.Reads as wide-reads
-use Rattle.fields.proofs.content_at.Reads as content-at-reads
-use Rattle.fields.proofs.next_at.Reads as next-at-reads
 
 abbrev Inv-loop : tie.InvT-loop
 Inv-loop verdicts₀ file from count types sets arities starts tables m preds segments marks at₀ i₀ verdicts at i =
@@ -31,22 +23,18 @@ abbrev μ-loop : tie.MeasureT-loop
 μ-loop verdicts₀ file from count types sets arities starts tables m preds segments marks at₀ i₀ verdicts at i =
     count - i
 
--- src/lib.rt:137:5
 loop-holds : tie.Need-loop-holds Inv-loop μ-loop
 loop-holds c =
     let a = c .before .before .before .before .before .before .before .before .before .args in
     let zero-less : a .count - 0 ≡ a .count = omega arith in
     (refl, record { inside = omega arith; number = c .before .before .before .before .before .before .before .before .before .pre .2; left = ap (λ (n : ℕ). contentsFrom n (drop (a .from) (a .file .now))) zero-less; is = refl })
 
--- src/lib.rt:137:15
 wide-requires : tie.Need-wide-requires Inv-loop μ-loop
 wide-requires c κs = tt
 
--- src/lib.rt:139:13
 content-at-requires : tie.Need-content-at-requires Inv-loop μ-loop
 content-at-requires c κs = tt
 
--- src/lib.rt:138:13
 is-open-requires : tie.Need-is-open-requires Inv-loop μ-loop
 is-open-requires c κs =
     let a = c .before .before .before .before .before .before .before .before .before .before .before .before .before .args in
@@ -55,27 +43,21 @@ is-open-requires c κs =
     let lt : loop .i < a .count = omega (arith, c .before .if1 .taken, c .before .before .wide .ensures) in
     (p .0, subst (λ (s : List ℕ). T (isSome (readQuery (a .types) (a .arities .now) (a .preds .now) s))) (sym (content-is (a .file .now) (a .count) (contentsFrom (a .count) (drop (a .from) (a .file .now))) (verdictIn (a .types) (a .m) (a .sets .now) (a .arities .now) (a .tables .now) (a .preds .now) (a .marks .now)) (a .verdicts .now) lt (p .1) (loop .inv .1) (c .content-at .ensures .0))) (All-getD _ (contentsFrom (a .count) (drop (a .from) (a .file .now))) [] (p .3) (loop .i) (subst (λ (n : ℕ). loop .i < n) (sym (p .2)) lt)))
 
--- src/lib.rt:150:23
 byte-requires : tie.Need-byte-requires Inv-loop μ-loop
 byte-requires c κs = tt
 
--- src/lib.rt:150:9
 slice-write-verdicts : tie.Need-slice-write-verdicts Inv-loop μ-loop
 slice-write-verdicts c = omega (arith, c .before .before .before .before .before .loop .inv .0, c .before .before .before .before .before .before .before .before .before .before .before .before .before .before .before .pre .1, c .before .before .before .if1 .taken, c .before .before .before .before .wide .ensures)
 
--- src/lib.rt:151:9
 next-at-requires : tie.Need-next-at-requires Inv-loop μ-loop
 next-at-requires c κs = tt
 
--- src/lib.rt:152:9
 add-i : tie.Need-add-i Inv-loop μ-loop
 add-i c = omega (arith, c .before .before .before .before .before .before .before .before .before .before .before .before .before .before .before .before .pre .1, c .before .before .before .before .if1 .taken, c .before .before .before .before .before .wide .ensures)
 
--- src/lib.rt:137:5
 loop-less : tie.Need-loop-less Inv-loop μ-loop
 loop-less c = omega (arith, c .before .before .before .before .if1 .taken, c .before .before .before .before .before .wide .ensures)
 
--- src/lib.rt:137:5
 loop-again : tie.Need-loop-again Inv-loop μ-loop
 loop-again c =
     let a = c .before .before .before .before .before .before .before .before .before .before .before .before .before .before .before .before .args in
@@ -84,11 +66,9 @@ loop-again c =
     let lt : loop .i < a .count = omega (arith, c .before .before .before .before .if1 .taken, c .before .before .before .before .before .wide .ensures) in
     (length-set (loop .verdicts) (loop .i) _ ∙ loop .inv .0, read-on (a .file .now) (a .count) (contentsFrom (a .count) (drop (a .from) (a .file .now))) (verdictIn (a .types) (a .m) (a .sets .now) (a .arities .now) (a .tables .now) (a .preds .now) (a .marks .now)) (a .verdicts .now) lt (p .1) (loop .inv .1) (c .before .before .before .content-at .ensures .0) (c .before .byte .ensures ∙ ap bit (c .before .before .is-open .ensures)) (c .next-at .ensures))
 
--- src/lib.rt:117:1
 same-length : tie.Need-same-length Inv-loop μ-loop
 same-length c = c .before .before .loop .inv .0
 
--- src/lib.rt:117:1
 returns : tie.Need-returns Inv-loop μ-loop
 returns c =
     let a = c .before .before .before .before .before .before .before .before .before .before .before .before .args in

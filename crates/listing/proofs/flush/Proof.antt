@@ -4,27 +4,19 @@ use native.Mathlib.Omega.{arith}
 use lib.Seq.{length-take-le}
 use Rattle.listing.proofs.flush.Statement.{statement}
 use Rattle.listing.proofs.flush.Tie as tie
-use Rattle.listing.proofs.flush.Reads as reads
-use Rattle.listing.proofs.flush.Lts as lts
-use Rattle.io.proofs.write_all.Reads as write-all-reads
 
--- src/main.rt:31:8
 sub-if1 : tie.Need-sub-if1
 sub-if1 c = c .before .pre .0
 
--- src/main.rt:32:38
 slice-aggregate-write-all : tie.Need-slice-aggregate-write-all
 slice-aggregate-write-all c = sym (length-take-le (c .before .before .before .args .at) (c .before .before .before .args .out .now) (c .before .before .before .pre .0))
 
--- src/main.rt:32:9
 write-all-requires : tie.Need-write-all-requires
 write-all-requires c κs = tt
 
--- src/main.rt:33:9
 returns : tie.Need-returns
 returns c = c .before .before .before .before .pre .1
 
--- src/main.rt:27:1
 returns-2 : tie.Need-returns-2
 returns-2 c = omega (arith, c .before .before .pre .0)
 

@@ -6,45 +6,31 @@ use Rattle.analysis.proofs.Theorems.{accepted-is, count-of-states, count-of-ato
 use borrow.Author.Needs.{needs}
 use Rattle.listing.proofs.list.Statement.{statement}
 use Rattle.listing.proofs.list.Tie as tie
-use Rattle.listing.proofs.list.Reads as reads
-use Rattle.listing.proofs.list.Lts as lts
-use Rattle.analysis.proofs.analyse.Reads as analyse-reads
-use Rattle.listing.proofs.print_refusal.Reads as print-refusal-reads
-use Rattle.listing.proofs.print_results.Reads as print-results-reads
 
--- src/main.rt:116:9
 analyse-requires : tie.Need-analyse-requires
 analyse-requires c κs = tt
 
--- src/main.rt:119:9
 print-refusal-requires : tie.Need-print-refusal-requires
 print-refusal-requires c κs = c .before .before .before .before .before .before .before .before .before .before .before .before .before .before .before .before .before .before .before .before .before .before .before .pre
 
--- src/main.rt:120:9
 same-length : tie.Need-same-length
 same-length c = search needs
 
--- src/main.rt:120:9
 same-length-2 : tie.Need-same-length-2
 same-length-2 c = search needs
 
--- src/main.rt:120:9
 same-length-3 : tie.Need-same-length-3
 same-length-3 c = search needs
 
--- src/main.rt:120:9
 same-length-4 : tie.Need-same-length-4
 same-length-4 c = search needs
 
--- src/main.rt:120:9
 same-length-5 : tie.Need-same-length-5
 same-length-5 c = search needs
 
--- src/main.rt:120:9
 returns : tie.Need-returns
 returns c = tt
 
--- src/main.rt:122:5
 print-results-requires : tie.Need-print-results-requires
 print-results-requires c κs =
     let x = c .before .before .before .before .before .before .before .before .before .before .before .before .before .before .before .before .before .before .before .before .before .before .before .before .before .before in
@@ -67,27 +53,21 @@ print-results-requires c κs =
       x .pre,
     )
 
--- src/main.rt:106:1
 same-length-6 : tie.Need-same-length-6
 same-length-6 c = search needs
 
--- src/main.rt:106:1
 same-length-7 : tie.Need-same-length-7
 same-length-7 c = search needs
 
--- src/main.rt:106:1
 same-length-8 : tie.Need-same-length-8
 same-length-8 c = search needs
 
--- src/main.rt:106:1
 same-length-9 : tie.Need-same-length-9
 same-length-9 c = search needs
 
--- src/main.rt:106:1
 same-length-10 : tie.Need-same-length-10
 same-length-10 c = search needs
 
--- src/main.rt:106:1
 returns-2 : tie.Need-returns-2
 returns-2 c = tt
 

@@ -8,12 +8,6 @@ use lib.Seq.{length-take-le}
 use Rattle.lines.specs.Listing.{pieces}
 use Rattle.listing.proofs.print_pieces.Statement.{statement}
 use Rattle.listing.proofs.print_pieces.Tie as tie
-use Rattle.listing.proofs.print_pieces.Reads as reads
-use Rattle.listing.proofs.print_pieces.Lts as lts
-use Rattle.io.proofs.write_all.Reads as write-all-reads
-use Rattle.lines.proofs.piece_count.Reads as piece-count-reads
-use Rattle.lines.proofs.put_piece.Reads as put-piece-reads
-use Rattle.listing.proofs.flush.Reads as flush-reads
 
 abbrev Inv-loop : tie.InvT-loop
 Inv-loop file known states marks verdicts atoms rounds out₀ count at₀ k₀ out at k = (length out ≡ length out₀) × (at ≤ length out₀) × (count ≡ pieces file)
@@ -21,19 +15,15 @@ Inv-loop file known states marks verdicts atoms rounds out₀ count at₀ k₀ o
 abbrev μ-loop : tie.MeasureT-loop
 μ-loop file known states marks verdicts atoms rounds out₀ count at₀ k₀ out at k = count - k
 
--- src/main.rt:51:9
 piece-count-requires : tie.Need-piece-count-requires Inv-loop μ-loop
 piece-count-requires c κs = c .before .before .before .before .before .pre .0
 
--- src/main.rt:54:5
 loop-holds : tie.Need-loop-holds Inv-loop μ-loop
 loop-holds c = (refl, omega arith, c .piece-count .ensures)
 
--- src/main.rt:55:13
 flush-requires : tie.Need-flush-requires Inv-loop μ-loop
 flush-requires c κs = let loop = c .before .before .loop in (omega (arith, loop .inv .0, loop .inv .1), omega (arith, loop .inv .0, c .before .before .before .before .before .before .before .before .before .pre .4))
 
--- src/main.rt:56:9
 put-piece-requires : tie.Need-put-piece-requires Inv-loop μ-loop
 put-piece-requires c κs =
     let p = c .before .before .before .before .before .before .before .before .before .before .before .pre in
@@ -46,37 +36,29 @@ put-piece-requires c κs =
 kept : (c : tie.After-put-piece Inv-loop μ-loop) → length (c .put-piece .last .0) ≡ length (c .before .before .before .before .before .loop .out)
 kept c = search needs
 
--- src/main.rt:68:9
 add-k : tie.Need-add-k Inv-loop μ-loop
 add-k c = search needs
 
--- src/main.rt:54:5
 loop-less : tie.Need-loop-less Inv-loop μ-loop
 loop-less c = omega arith
 
--- src/main.rt:54:5
 loop-again : tie.Need-loop-again Inv-loop μ-loop
 loop-again c =
     let loop = c .before .before .before .before .before .before .before .loop in
     (kept (c .before .before) ∙ loop .inv .0, omega (arith, c .before .before .put-piece .ensures .1, c .before .before .before .before .flush .ensures, loop .inv .0), loop .inv .2)
 
--- src/main.rt:70:34
 slice-reshare-prefix-write-all : tie.Need-slice-reshare-prefix-write-all Inv-loop μ-loop
 slice-reshare-prefix-write-all c = omega (arith, c .before .loop .inv .0, c .before .loop .inv .1)
 
--- src/main.rt:70:34
 slice-aggregate-write-all : tie.Need-slice-aggregate-write-all Inv-loop μ-loop
 slice-aggregate-write-all c = sym (length-take-le (c .before .before .loop .at) (c .before .before .loop .out) (omega (arith, c .before .before .loop .inv .0, c .before .before .loop .inv .1)))
 
--- src/main.rt:70:5
 write-all-requires : tie.Need-write-all-requires Inv-loop μ-loop
 write-all-requires c κs = tt
 
--- src/main.rt:39:1
 same-length : tie.Need-same-length Inv-loop μ-loop
 same-length c = c .before .before .before .loop .inv .0
 
--- src/main.rt:39:1
 returns : tie.Need-returns Inv-loop μ-loop
 returns c = tt
 

@@ -1,41 +1,30 @@
 -- `listing::print_refusal` meets its contract. Assumes nothing.
 use Prim.Native.Nat.{_≤_}
 use mathlib.Core.Path.{sym}
-use native.Mathlib.Omega.{arith}
 use lib.ListN.{length}
 use lib.Seq.{length-take-le}
 use borrow.Author.Needs.{needs}
 use Rattle.listing.proofs.print_refusal.Statement.{statement}
 use Rattle.listing.proofs.print_refusal.Tie as tie
-use Rattle.listing.proofs.print_refusal.Reads as reads
-use Rattle.listing.proofs.print_refusal.Lts as lts
-use Rattle.io.proofs.write_all.Reads as write-all-reads
-use Rattle.lines.proofs.put_refusal.Reads as put-refusal-reads
 
--- src/main.rt:22:9
 put-refusal-requires : tie.Need-put-refusal-requires
 put-refusal-requires c κs = c .before .before .pre
 
--- src/main.rt:23:34
 slice-reshare-prefix-write-all : tie.Need-slice-reshare-prefix-write-all
 slice-reshare-prefix-write-all c = search needs
 
 fits : (c : tie.After-put-refusal) → c .put-refusal .result ≤ length (c .put-refusal .last .0)
 fits c = search needs
 
--- src/main.rt:23:34
 slice-aggregate-write-all : tie.Need-slice-aggregate-write-all
 slice-aggregate-write-all c = sym (length-take-le (c .before .before .before .put-refusal .result) (c .before .before .before .put-refusal .last .0) (fits (c .before .before .before)))
 
--- src/main.rt:23:5
 write-all-requires : tie.Need-write-all-requires
 write-all-requires c κs = tt
 
--- src/main.rt:19:1
 same-length : tie.Need-same-length
 same-length c = search needs
 
--- src/main.rt:19:1
 returns : tie.Need-returns
 returns c = tt
 

@@ -6,67 +6,49 @@ use Rattle.analysis.proofs.Shown.{holds-room, holds-first, shown-few, preds-fit
 use borrow.Author.Needs.{needs}
 use Rattle.listing.proofs.print_results.Statement.{statement}
 use Rattle.listing.proofs.print_results.Tie as tie
-use Rattle.listing.proofs.print_results.Reads as reads
-use Rattle.listing.proofs.print_results.Lts as lts
-use Rattle.cells.proofs.cells_of.Reads as cells-of-reads
-use Rattle.listing.proofs.print_pieces.Reads as print-pieces-reads
-use Rattle.listing.proofs.wide.Reads as wide-reads
-use Rattle.rules.proofs.read.Reads as read-reads
 
--- src/main.rt:86:9
 read-requires : tie.Need-read-requires
 read-requires c κs = tt
 
--- src/main.rt:90:18
 array-read-wide : tie.Need-array-read-wide
 array-read-wide c = search needs
 
--- src/main.rt:90:9
 wide-requires : tie.Need-wide-requires
 wide-requires c κs = tt
 
--- src/main.rt:91:24
 array-read-wide-2 : tie.Need-array-read-wide-2
 array-read-wide-2 c = search needs
 
--- src/main.rt:91:9
 wide-requires-2 : tie.Need-wide-requires-2
 wide-requires-2 c κs = tt
 
--- src/main.rt:92:32
 array-share-prefix-predicates : tie.Need-array-share-prefix-predicates
 array-share-prefix-predicates c = preds-fit (c .before .before .before .before .before .before .before .before .before .before .before .pre .0) (c .before .before .before .before .before .read .ensures .1) (c .before .wide .ensures)
 
--- src/main.rt:92:32
 slice-aggregate-cells-of : tie.Need-slice-aggregate-cells-of
 slice-aggregate-cells-of c = sym (length-take-le (c .before .before .wide .result) (c .before .before .before .before .before .before .read .result .known .predicates) (preds-fit (c .before .before .before .before .before .before .before .before .before .before .before .before .pre .0) (c .before .before .before .before .before .before .read .ensures .1) (c .before .before .wide .ensures)))
 
--- src/main.rt:92:9
 cells-of-requires : tie.Need-cells-of-requires
 cells-of-requires c κs =
     let f = c .before .before .before .before .before .before .before .before .before .before .before .before .pre .0 in
     let knows = c .before .before .before .before .before .before .read .ensures .1 in
     (shown-few f knows, preds-few f knows (c .before .before .wide .ensures), preds-narrow f knows (c .before .before .wide .ensures))
 
--- src/main.rt:96:9
 slice-aggregate-print-pieces : tie.Need-slice-aggregate-print-pieces
 slice-aggregate-print-pieces c =
     let x = c .before .before .before .before .before .before .before .before .before .before .before .before .before .before in
     sym (length-take-le (x .args .m) (x .args .states .now) (holds-room (statesOf (x .args .file .now)) (x .args .states .now) (x .pre .0 .statesAre) (x .pre .0 .count)))
 
--- src/main.rt:97:9
 slice-aggregate-print-pieces-2 : tie.Need-slice-aggregate-print-pieces-2
 slice-aggregate-print-pieces-2 c =
     let x = c .before .before .before .before .before .before .before .before .before .before .before .before .before .before .before in
     sym (length-take-le (c .before .before .cells-of .result) (x .args .marks .now) (holds-room (modelOf (x .args .file .now)) (x .args .marks .now) (x .pre .0 .marksAre) (marks-size (x .pre .0) (c .before .before .before .before .before .before .before .before .before .read .ensures .1) (c .before .before .before .before .before .wide .ensures) (c .before .before .cells-of .ensures))))
 
--- src/main.rt:98:9
 slice-aggregate-print-pieces-3 : tie.Need-slice-aggregate-print-pieces-3
 slice-aggregate-print-pieces-3 c =
     let x = c .before .before .before .before .before .before .before .before .before .before .before .before .before .before .before .before in
     sym (length-take-le (c .before .before .before .before .before .wide2 .result) (x .args .verdicts .now) (holds-room (verdictsOf (x .args .file .now)) (x .args .verdicts .now) (x .pre .0 .verdictsAre) (verdicts-size (x .pre .0) (c .before .before .before .before .before .before .before .before .before .before .read .ensures .1) (c .before .before .before .before .before .wide2 .ensures))))
 
--- src/main.rt:93:5
 print-pieces-requires : tie.Need-print-pieces-requires
 print-pieces-requires c κs =
     let x = c .before .before .before .before .before .before .before .before .before .before .before .before .before .before .before .before .before in
@@ -85,11 +67,9 @@ print-pieces-requires c κs =
       x .pre .3,
     )
 
--- src/main.rt:74:1
 same-length : tie.Need-same-length
 same-length c = search needs
 
--- src/main.rt:74:1
 returns : tie.Need-returns
 returns c = tt
 
