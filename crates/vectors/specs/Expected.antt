@@ -5,7 +5,7 @@ use mathlib.Core.List.{List, [], _∷_}
 use lib.Dec.{eqb, leb, ltb}
 use lib.ListN.{length, getD, take, drop}
 use Rattle.meaning.specs.Lists.{same}
-use Rattle.meaning.specs.Refusals.{refused, accepted, Answer as Answered}
+use Rattle.meaning.specs.Refusals.{refused, accepted}
 use Rattle.meaning.specs.Files.{fileAnswer}
 use Rattle.vectors.specs.declared.Number.{Number}
 use Rattle.vectors.specs.declared.Number.the-variants.{Is, No}
@@ -48,3 +48,7 @@ sameAnswer a b = eqb (a .number) (b .number) && eqb (a .place) (b .place)
 -- a rule file is answered as its listing expects
 unfoldable pub isExpected : List ℕ → List ℕ → Bool
 isExpected file listing = sameAnswer (fileAnswer file) (expectedOf (lineIn listing))
+
+-- some bytes stand in a listing from a place on
+abbrev pub standsAt : List ℕ → ℕ → List ℕ → Bool
+standsAt listing from bytes = leb (from + length bytes) (length listing) && same (take (length bytes) (drop from listing)) bytes

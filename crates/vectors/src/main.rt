@@ -1,25 +1,41 @@
-// Plays the rule files of data/, each with the listing beside it, and compares: refused with 1 to 8 and where, or accepted; and of the folder
-// sets, the states and the tables.
+// Plays the rule files of data/, each with what stands beside it, and compares: of the folders base and full the whole listing, of more whether the
+// file is refused with 1 to 8 and where, or accepted, and of sets the states and the tables.
 // Prints a line for each difference, and the counts of each folder.
 use accept::Answer;
 use libc::STDOUT_FILENO;
 use refusals::Known;
 use states::Count;
-ghost use Prim.Native.Nat.{_*_, _≤_, _<_, _-_};
+ghost use Prim.Native.Nat.{_+_, _*_, _≤_, _<_, _-_};
 ghost use mathlib.Core.Path.{_≡_};
+ghost use mathlib.Core.Bool.{true, not, _&&_};
+ghost use lib.Dec.{eqb};
 ghost use lib.ListN.{length, take};
+ghost use Rattle.meaning.specs.Lists.{same};
 ghost use Rattle.meaning.specs.Refusals.{accepted, refused};
 ghost use Rattle.meaning.specs.Files.{fileAnswer};
-ghost use Rattle.meaning.specs.Calls.{statesOf};
+ghost use Rattle.meaning.specs.Calls.{statesOf, roundsOf, atomsOf};
 ghost use Rattle.refusals.specs.Known.{Knows, fieldsRead};
 ghost use Rattle.accept.specs.Accepted.{answered};
-ghost use Rattle.vectors.specs.Expected.{lineIn, isDigit, numberFrom, isRefusal, expectedOf, sameAnswer, isExpected};
+ghost use Rattle.lines.specs.Lines.{refusedLine};
+ghost use Rattle.lines.specs.Listing.{listing, Results};
+ghost use Rattle.analysis.specs.Given.{Filled};
+ghost use Rattle.vectors.specs.Expected.{lineIn, isDigit, numberFrom, isRefusal, expectedOf, sameAnswer, isExpected, standsAt};
 ghost use Rattle.vectors.specs.Paths.{numbered};
 
 // What some bytes say in decimal.
 pub enum Number {
     Is(usize),
     No,
+}
+
+// What of a file is compared with what stands beside it.
+pub enum Way {
+    // Refused or accepted, by the first line of its listing.
+    Answer,
+    // The states and the tables.
+    States,
+    // The whole listing.
+    Listing,
 }
 
 // How a file compares with its listing.
@@ -232,9 +248,172 @@ fn compare_states(path: &[u8], file: &[u8], expected: &[u8]) -> bool {
     false
 }
 
-// A rule file and its listing, by their paths. Of a longer file than the buffer holds the start is refused as the whole is, and of a listing
-// the first line is enough.
-fn play_file(rules: &[u8], listing: &[u8], of_states: bool) -> Outcome {
+// Whether some bytes stand in a listing at a place.
+fn stands_at(expected: &[u8], from: usize, bytes: &[u8]) -> bool
+    requires { ⌜ from ≤ length (now expected) ⌝ }
+    ensures { λ r. ⌜ r ≡ standsAt (now (expected .entry)) from (now (bytes .entry)) ⌝ }
+{
+    if expected.len() - from < bytes.len() {
+        return false;
+    }
+    let to = from + bytes.len();
+    names::same(&expected[from..to], bytes)
+}
+
+// Whether a listing is the pieces one after the other.
+fn are_pieces(
+    file: &[u8],
+    known: Known,
+    states: &[u16],
+    marks: &[u8],
+    verdicts: &[u8],
+    atoms: usize,
+    rounds: usize,
+    expected: &[u8],
+    out: &mut [u8],
+) -> bool
+    requires { ⌜ Results (now file) (now states) (now marks) (now verdicts) × Knows known (fieldsRead (now file)) × (atoms ≡ length (atomsOf (now file))) × (rounds ≡ roundsOf (now file)) × (128 ≤ length (now out)) ⌝ }
+    ensures { λ r. ⌜ (r ≡ true → now (expected .entry) ≡ listing (now (file .entry))) ⌝ }
+{
+    let count = lines::piece_count(file, states, marks, verdicts);
+    let mut from = 0;
+    let mut k = 0;
+    while k < count {
+        let n = lines::put_piece(
+            out,
+            0,
+            k,
+            file,
+            known,
+            states,
+            marks,
+            verdicts,
+            atoms,
+            rounds,
+        );
+        if !stands_at(expected, from, &out[..n]) {
+            return false;
+        }
+        from += n;
+        k += 1;
+    }
+    from == expected.len()
+}
+
+// Whether a listing is that of an accepted file, from the buffers that its analysis filled.
+fn are_results(
+    file: &[u8],
+    m: usize,
+    states: &[u16],
+    marks: &[u8],
+    verdicts: &[u8],
+    atoms: usize,
+    rounds: usize,
+    expected: &[u8],
+    out: &mut [u8],
+) -> bool
+    requires { ⌜ Filled (now file) m (now states) (now marks) (now verdicts) × (atoms ≡ length (atomsOf (now file))) × (rounds ≡ roundsOf (now file)) × (128 ≤ length (now out)) ⌝ }
+    ensures { λ r. ⌜ (r ≡ true → now (expected .entry) ≡ listing (now (file .entry))) ⌝ }
+{
+    let reading = rules::read(file);
+    let known = reading.known;
+    let counts = known.counts;
+    let predicates = known.predicates;
+    let p = wide(counts[4]);
+    let queries = wide(counts[6]);
+    let size = cells::cells_of(&predicates[..p], m);
+    are_pieces(
+        file,
+        known,
+        &states[..m],
+        &marks[..size],
+        &verdicts[..queries],
+        atoms,
+        rounds,
+        expected,
+        out,
+    )
+}
+
+// Whether a listing is a refusal and nothing else. One with 9 is about the buffers, and stands in no listing.
+fn is_refused(number: usize, place: usize, expected: &[u8], out: &mut [u8]) -> bool
+    requires { ⌜ 128 ≤ length (now out) ⌝ }
+    ensures { λ r. ⌜ r ≡ (not (eqb number 9) && same (refusedLine (refused number place)) (now (expected .entry))) ⌝ }
+{
+    let n = lines::put_refusal(out, 0, number, place);
+    (number != 9) & names::same(&out[..n], expected)
+}
+
+// Whether a listing is that of a file, by its analysis in the lent buffers.
+fn is_listing(
+    file: &[u8],
+    expected: &[u8],
+    states: &mut [u16],
+    tables: &mut [u8],
+    marks: &mut [u8],
+    verdicts: &mut [u8],
+    out: &mut [u8],
+) -> bool
+    requires { ⌜ 128 ≤ length (now out) ⌝ }
+    ensures { λ r. ⌜ (r ≡ true → now (expected .entry) ≡ listing (now (file .entry))) ⌝ }
+{
+    let r = analysis::analyse(file, states, tables, marks, verdicts);
+    let answer = r.answer;
+    if answer.number != 0 {
+        return is_refused(answer.number, answer.place, expected, out);
+    }
+    are_results(
+        file,
+        r.states,
+        states,
+        marks,
+        verdicts,
+        r.atoms,
+        r.rounds,
+        expected,
+        out,
+    )
+}
+
+// Whether a listing is that of a file; if not, that is printed. The buffers are for 16 states, 24 symbols of arity 2, 16 predicates of arity 3 and
+// 32 queries.
+fn compare_listing(path: &[u8], file: &[u8], expected: &[u8]) -> bool
+    ensures { λ r. ⌜ (r ≡ true → now (expected .entry) ≡ listing (now (file .entry))) ⌝ }
+{
+    let mut states = [0u16; 16];
+    let mut tables = [0u8; 6144];
+    let mut marks = [0u8; 65536];
+    let mut verdicts = [0u8; 32];
+    let mut out = io::buffer();
+    let is = is_listing(
+        file,
+        expected,
+        &mut states,
+        &mut tables,
+        &mut marks,
+        &mut verdicts,
+        &mut out,
+    );
+    if is {
+        return true;
+    }
+    print(path);
+    print(b": other listing\n");
+    false
+}
+
+// By one of the three ways.
+fn compare_by(way: Way, path: &[u8], file: &[u8], beside: &[u8]) -> bool {
+    match way {
+        Way::Answer => compare(path, file, beside),
+        Way::States => compare_states(path, file, beside),
+        Way::Listing => compare_listing(path, file, beside),
+    }
+}
+
+// A rule file and what stands beside it, by their paths. Of a longer file than the buffer holds the start is refused as the whole is; what stands
+// beside it must leave a byte of the buffer, so that all of it was read.
+fn play_file(rules: &[u8], beside: &[u8], way: Way) -> Outcome {
     let fd = os::open_read(rules);
     if fd < 0 {
         return Outcome::Missing;
@@ -242,22 +421,21 @@ fn play_file(rules: &[u8], listing: &[u8], of_states: bool) -> Outcome {
     let mut file = io::large_buffer();
     let n = io::read_full(fd, &mut file);
     libc::close(fd);
-    let beside = os::open_read(listing);
-    if beside < 0 {
-        print(listing);
+    let other = os::open_read(beside);
+    if other < 0 {
+        print(beside);
         print(b": missing\n");
         return Outcome::Different;
     }
-    let mut text = io::buffer();
-    let m = io::read_full(beside, &mut text);
-    libc::close(beside);
-    if of_states {
-        if compare_states(rules, &file[..n], &text[..m]) {
-            return Outcome::Same;
-        }
+    let mut text = io::large_buffer();
+    let m = io::read_full(other, &mut text);
+    libc::close(other);
+    if m == 65536 {
+        print(beside);
+        print(b": too long\n");
         return Outcome::Different;
     }
-    if compare(rules, &file[..n], &text[..m]) {
+    if compare_by(way, rules, &file[..n], &text[..m]) {
         return Outcome::Same;
     }
     Outcome::Different
@@ -274,7 +452,7 @@ fn put_number(path: &mut [u8], k: usize)
 }
 
 // The files of a folder, from 000 to the first that is missing.
-fn play(folder: &[u8], rules: &mut [u8], listing: &mut [u8], of_states: bool)
+fn play(folder: &[u8], rules: &mut [u8], listing: &mut [u8], way: Way)
     requires { ⌜ (8 ≤ length (now rules)) × (8 ≤ length (now listing)) ⌝ }
 {
     let mut files: usize = 0;
@@ -282,7 +460,7 @@ fn play(folder: &[u8], rules: &mut [u8], listing: &mut [u8], of_states: bool)
     while files < 1000 {
         put_number(rules, files);
         put_number(listing, files);
-        match play_file(rules, listing, of_states) {
+        match play_file(rules, listing, way) {
             Outcome::Missing => {
                 print_counts(folder, files, differences);
                 return;
@@ -302,11 +480,14 @@ fn play(folder: &[u8], rules: &mut [u8], listing: &mut [u8], of_states: bool)
 fn main() {
     let mut base_rules = *b"base/000.rules";
     let mut base_listing = *b"base/000.listing";
-    play(b"base", &mut base_rules, &mut base_listing, false);
+    play(b"base", &mut base_rules, &mut base_listing, Way::Listing);
     let mut more_rules = *b"more/000.rules";
     let mut more_listing = *b"more/000.listing";
-    play(b"more", &mut more_rules, &mut more_listing, false);
+    play(b"more", &mut more_rules, &mut more_listing, Way::Answer);
     let mut sets_rules = *b"sets/000.rules";
     let mut sets_states = *b"sets/000.states";
-    play(b"sets", &mut sets_rules, &mut sets_states, true);
+    play(b"sets", &mut sets_rules, &mut sets_states, Way::States);
+    let mut full_rules = *b"full/000.rules";
+    let mut full_listing = *b"full/000.listing";
+    play(b"full", &mut full_rules, &mut full_listing, Way::Listing);
 }

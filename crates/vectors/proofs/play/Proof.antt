@@ -8,10 +8,10 @@ use Rattle.vectors.proofs.play.Statement.{statement}
 use Rattle.vectors.proofs.play.Tie as tie
 
 abbrev Inv-loop : tie.InvT-loop
-Inv-loop folder rules₀ listing₀ of_states files₀ differences₀ rules listing files differences = (length rules ≡ length rules₀) × (length listing ≡ length listing₀) × (files ≤ 1000) × (differences ≤ files)
+Inv-loop folder rules₀ listing₀ way files₀ differences₀ rules listing files differences = (length rules ≡ length rules₀) × (length listing ≡ length listing₀) × (files ≤ 1000) × (differences ≤ files)
 
 abbrev μ-loop : tie.MeasureT-loop
-μ-loop folder rules₀ listing₀ of_states files₀ differences₀ rules listing files differences = 1000 - files
+μ-loop folder rules₀ listing₀ way files₀ differences₀ rules listing files differences = 1000 - files
 
 loop-holds : tie.Need-loop-holds Inv-loop μ-loop
 loop-holds c = search needs

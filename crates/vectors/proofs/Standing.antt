@@ -1,0 +1,102 @@
+-- Bytes that stand in a listing at a place, and a listing that is the pieces one after the other. Assumes nothing.
+use Prim.Native.Nat.{ℕ, _+_, _-_, _≤_, _<_}
+use mathlib.Core.Path.{_≡_, refl, sym, ap, ap₂, subst, _∙_}
+use mathlib.Core.Logic.{_≢_}
+use mathlib.Core.Bool.{Bool, true, false, not, _&&_}
+use mathlib.Core.List.{List, _++_}
+use native.Mathlib.Nat.{zero-add}
+use native.Mathlib.Omega.{arith}
+use lib.Dec.{T, eqb, leb, leb→le}
+use lib.ListN.{length, take, drop}
+use lib.Seq.{take-add, take-all}
+use borrow.Author.Tests.{lt-leb, le-leb, eqb-true, eqb-false}
+use Rattle.meaning.specs.Lists.{same, joined, table}
+use Rattle.meaning.specs.Refusals.{Answer, accepted, andThen, refuseIf}
+use Rattle.meaning.specs.Files.{fileAnswer}
+use Rattle.meaning.specs.Calls.{Buffers, Analysed, longEnough, analysisAnswer, analysed}
+use Rattle.meaning.proofs.Lists.{both, T-of, same-eq}
+use Rattle.meaning.proofs.Answers.{then-next, then-first}
+use Rattle.text.proofs.Pasted.{take-pasted}
+use Rattle.lines.specs.Lines.{Put, refusedLine}
+use Rattle.lines.specs.Listing.{listing, pieces, piece}
+use Rattle.lines.proofs.Pieces.{listing-pieces, pieces-next, listing-refused}
+use Rattle.accept.specs.Accepted.{answered}
+use Rattle.analysis.specs.Given.{given}
+use Rattle.analysis.specs.declared.Analysis.{Analysis}
+use Rattle.vectors.specs.Expected.{standsAt}
+
+-- the tests of `standsAt`: too few bytes are left, or as many as there are to compare
+module _ (s : List ℕ) (from : ℕ) (bytes : List ℕ) where
+  pub stands-short : length s < from + length bytes → standsAt s from bytes ≡ false
+  stands-short h = ap (λ (b : Bool). b && same (take (length bytes) (drop from s)) bytes) (lt-leb (from + length bytes) (length s) h)
+
+  pub stands-long : from + length bytes ≤ length s → standsAt s from bytes ≡ same (take (from + length bytes - from) (drop from s)) bytes
+  stands-long h =
+      let e : length bytes ≡ from + length bytes - from = omega arith in
+      ap (λ (b : Bool). b && same (take (length bytes) (drop from s)) bytes) (le-leb (from + length bytes) (length s) h)
+      ∙ ap (λ (n : ℕ). same (take n (drop from s)) bytes) e
+
+  -- where they stand, the bytes up to their end are those before them, and they
+  pub stands-next : standsAt s from bytes ≡ true → (from + length bytes ≤ length s) × (take (from + length bytes) s ≡ take from s ++ bytes)
+  stands-next e =
+      let w = both (leb (from + length bytes) (length s)) (same (take (length bytes) (drop from s)) bytes) (T-of (standsAt s from bytes) e) in (
+        leb→le (from + length bytes) (length s) (w .0),
+        take-add from (length bytes) s ∙ ap (λ (l : List ℕ). take from s ++ l) (same-eq (take (length bytes) (drop from s)) bytes (w .1)),
+      )
+
+-- what was put at the start of a buffer
+pub put-front : (out bytes : List ℕ) {after : List ℕ} {n : ℕ} → Put out 0 bytes after n → take n after ≡ bytes
+put-front out bytes {after} {n} put =
+    ap₂ (λ (k : ℕ) (l : List ℕ). take k l) (put .1) (put .0) ∙ take-pasted out 0 bytes (omega arith)
+
+module _ (file s : List ℕ) (from k : ℕ) (front : take from s ≡ joined (table k (piece file))) where
+  -- a piece that was put stands in the listing after the pieces before it
+  pub piece-stands : (out : List ℕ) {after : List ℕ} {n : ℕ}
+      → Put out 0 (piece file k) after n
+      → standsAt s from (take n after) ≡ true
+      → (from + n ≤ length s) × (take (from + n) s ≡ joined (table (k + 1) (piece file)))
+  piece-stands out {after} {n} put e =
+      let w = stands-next s from (piece file k) (ap (standsAt s from) (sym (put-front out (piece file k) put)) ∙ e) in (
+        omega (arith, w .0, put .1),
+        ap (λ (j : ℕ). take (from + j) s) (put .1 ∙ zero-add (length (piece file k))) ∙ w .1 ∙ ap (λ (l : List ℕ). l ++ piece file k) front ∙ sym (pieces-next file k),
+      )
+
+  -- all pieces, and nothing after them
+  pub pieces-all : fileAnswer file ≡ accepted → k ≡ pieces file → from ≡ length s → s ≡ listing file
+  pieces-all e all end =
+      sym (take-all from s (omega (arith, end)))
+      ∙ front
+      ∙ ap (λ (j : ℕ). joined (table j (piece file))) all
+      ∙ listing-pieces file e
+
+-- a refusal other than 9 is that of the file
+module _ (file : List ℕ) (before after : Buffers) (r : Analysis) (is : given r after ≡ analysed file before) where
+  refusal-is : answered (r .answer) ≡ andThen (fileAnswer file) (refuseIf (not (longEnough file before)) 9 0)
+  unfolding analysed analysisAnswer
+  refusal-is = ap (λ (a : Analysed). a .answer) is
+
+  pub refused-is : r .answer .number ≢ 0
+      → (s : List ℕ)
+      → (b : Bool)
+      → b ≡ (not (eqb (r .answer .number) 9) && same (refusedLine (answered (r .answer))) s)
+      → b ≡ true
+      → s ≡ listing file
+  refused-is h s b told e =
+      let tests = both (not (eqb (r .answer .number) 9)) (same (refusedLine (answered (r .answer))) s) (T-of _ (sym told ∙ e)) in
+      let file-is = file-refused (eqb (fileAnswer file .number) 0) refl (tests .0) in
+      sym (same-eq (refusedLine (answered (r .answer))) s (tests .1))
+      ∙ ap refusedLine file-is
+      ∙ sym (listing-refused file (λ z. h (ap (λ (a : Answer). a .number) file-is ∙ z)))
+    where
+      no-refusal : (b : Bool) → T (not (eqb (r .answer .number) 9)) → answered (r .answer) ≡ refuseIf b 9 0 → ⊥
+      no-refusal true other q = subst (λ (n : ℕ). T (not (eqb n 9))) (ap (λ (a : Answer). a .number) q) other
+      no-refusal false other q = h (ap (λ (a : Answer). a .number) q)
+
+      file-refused : (b : Bool) → eqb (fileAnswer file .number) 0 ≡ b → T (not (eqb (r .answer .number) 9)) → answered (r .answer) ≡ fileAnswer file
+      file-refused true q other =
+          absurd
+          (no-refusal
+          (not (longEnough file before))
+          other
+          (refusal-is ∙ then-next (fileAnswer file) (refuseIf (not (longEnough file before)) 9 0) (eqb-true (fileAnswer file .number) 0 q)))
+      file-refused false q other = refusal-is ∙ then-first (fileAnswer file) (refuseIf (not (longEnough file before)) 9 0) (eqb-false (fileAnswer file .number) 0 q)
