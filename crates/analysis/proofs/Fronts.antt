@@ -27,10 +27,10 @@ front-all values before i e = ap (front values before) e ∙ ap (λ (l : List �
 pub written-again : (needed before : List ℕ) → written needed (written needed before) ≡ written needed before
 written-again needed before = ap (λ (l : List ℕ). needed ++ l) (drop-append-seam needed (drop (length needed) before))
 
-getD-mapped : (f : List ℕ → ℕ) (cs : List (List ℕ)) (i : ℕ) → i < length cs → getD (map f cs) i 0 ≡ f (getD cs i [])
-getD-mapped f [] i h = absurd (not-suc-le-zero h)
-getD-mapped f (c ∷ cs) zero h = refl
-getD-mapped f (c ∷ cs) (suc i) h = getD-mapped f cs i (le-of-suc-le-suc h)
+pub getD-mapped : {A : Type 0} (f : A → ℕ) (l : List A) (i : ℕ) (a : A) → i < length l → getD (map f l) i 0 ≡ f (getD l i a)
+getD-mapped f [] i a h = absurd (not-suc-le-zero h)
+getD-mapped f (x ∷ l) zero a h = refl
+getD-mapped f (x ∷ l) (suc i) a h = getD-mapped f l i a (le-of-suc-le-suc h)
 
 -- With i of the contents read, the others stand from a position on, and their values are written.
 module _ (file : List ℕ) (count : ℕ) (contents : List (List ℕ)) (value : List ℕ → ℕ) (before : List ℕ) where
@@ -59,7 +59,7 @@ module _ (file : List ℕ) (count : ℕ) (contents : List (List ℕ)) (value : L
               ap₂ (λ (k p : ℕ). contentsFrom k (drop p file)) (sym n) past
               ∙ (ap (λ (l : List (List ℕ)). drop 1 l) split ∙ ap (λ (k : ℕ). drop k contents) (sym (add-one i)));
           is =
-              ap₂ (λ (l : List ℕ) (d : ℕ). set l i d) (r .is) (e ∙ (ap value content-is ∙ sym (getD-mapped value contents i (omega (arith, r .number)))))
+              ap₂ (λ (l : List ℕ) (d : ℕ). set l i d) (r .is) (e ∙ (ap value content-is ∙ sym (getD-mapped value contents i [] (omega (arith, r .number)))))
               ∙ front-next (map value contents) before i (omega (arith, r .number, length-map contents value)) (omega arith);
         }
 

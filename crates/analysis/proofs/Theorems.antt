@@ -1,11 +1,10 @@
 -- What 01 demands, said of what an analysis hands back: `r` and the buffers `after` are those of a call with the buffers `before`, which its contract
 -- ties to the file. Assumes nothing.
-use Prim.Native.Nat.{ℕ, zero, suc, _+_, _≤_, _<_}
-use mathlib.Core.Path.{_≡_, refl, sym, ap, subst, _∙_}
+use Prim.Native.Nat.{ℕ, suc, _+_, _≤_, _<_}
+use mathlib.Core.Path.{_≡_, sym, ap, subst, _∙_}
 use mathlib.Core.Logic.{_⊎_, inl, inr, _↔_, _≢_}
 use mathlib.Core.Bool.{Bool, not, _&&_}
-use mathlib.Core.List.{List, [], _∷_, map, List·Memᴰ, List·Memᴰ·head, List·Memᴰ·tail}
-use native.Mathlib.Nat.{le-of-suc-le-suc, not-suc-le-zero}
+use mathlib.Core.List.{List, List·Memᴰ}
 use native.Mathlib.Omega.{arith}
 use lib.Dec.{T, eqb, leb, le→leb}
 use lib.ListN.{length, getD, take, drop, length-map, List·getD-append}
@@ -20,7 +19,7 @@ use Rattle.meaning.specs.Fields.{Bytes}
 use Rattle.meaning.specs.Refusals as meant
 use Rattle.meaning.specs.Files.{rulesOf, fileAnswer}
 use Rattle.meaning.specs.Calls.{symbolArities, predicateArities, statesOf, interpretationOf, tablesOf, modelOf, roundsOf, atomsOf, verdictOf, verdictsOf, written, filled, Buffers, Analysed, longEnough, analysisAnswer, analysed}
-use Rattle.meaning.proofs.Lists.{both-of}
+use Rattle.meaning.proofs.Lists.{both-of, mem-getD}
 use Rattle.meaning.proofs.Cells.{place-lt}
 use Rattle.meaning.proofs.Setting.{eachState}
 use Rattle.meaning.proofs.Stages.{stage-bits}
@@ -31,22 +30,12 @@ use Rattle.meaning.proofs.Theorems as theorems
 use Rattle.accept.specs.Accepted.{answered}
 use Rattle.analysis.specs.declared.Analysis.{Analysis}
 use Rattle.analysis.specs.Given.{given}
-use Rattle.analysis.proofs.Fronts.{written-again}
+use Rattle.analysis.proofs.Fronts.{written-again, getD-mapped}
 use Rattle.analysis.proofs.Ends.{room}
 
 -- a byte of the needed ones
 needed-at : (needed before : List ℕ) (i : ℕ) → i < length needed → getD (written needed before) i 0 ≡ getD needed i 0
 needed-at needed before i lt = List·getD-append needed (drop (length needed) before) 0 i lt
-
-getD-verdict : (f : Query → ℕ) (qs : List Query) (i : ℕ) (q : Query) → i < length qs → getD (map f qs) i 0 ≡ f (getD qs i q)
-getD-verdict f [] i q h = absurd (not-suc-le-zero h)
-getD-verdict f (x ∷ qs) zero q h = refl
-getD-verdict f (x ∷ qs) (suc i) q h = getD-verdict f qs i q (le-of-suc-le-suc h)
-
-getD-listed : (qs : List Query) (i : ℕ) (q : Query) → i < length qs → List·Memᴰ (getD qs i q) qs
-getD-listed [] i q h = absurd (not-suc-le-zero h)
-getD-listed (x ∷ qs) zero q h = List·Memᴰ·head refl
-getD-listed (x ∷ qs) (suc i) q h = List·Memᴰ·tail (getD-listed qs i q (le-of-suc-le-suc h))
 
 -- marks of 0 and 1
 one-marked : (x : ℕ) → (x ≡ 0) ⊎ (x ≡ 1) → (x ≡ 1) ↔ T (not (eqb x 0))
@@ -186,7 +175,7 @@ module _ (file : List ℕ) (before after : Buffers) (r : Analysis) (is : given r
       verdict-at i q lt =
           ap (λ (b : Buffers). getD (b .verdicts) i 0) after-is
           ∙ (needed-at (verdictsOf file) (before .verdicts) i (subst (λ (n : ℕ). i < n) (sym (length-map (rulesOf file .queries) (verdictOf file))) lt)
-          ∙ getD-verdict (verdictOf file) (rulesOf file .queries) i q lt)
+          ∙ getD-mapped (verdictOf file) (rulesOf file .queries) i q lt)
 
       pub verdicts-handed-back : (i : ℕ) (q : Query)
           → i < length (rulesOf file .queries)
@@ -203,4 +192,4 @@ module _ (file : List ℕ) (before after : Buffers) (r : Analysis) (is : given r
           → i < length (rulesOf file .queries)
           → getD (after .verdicts) i 0 ≡ 0
           → NoneDerivable (symbolArities file) (rulesOf file .productions) (rulesOf file .clauses) (getD (rulesOf file .queries) i q)
-      clear-handed-back i q lt e = theorems.clear-is-sound file admitted (getD (rulesOf file .queries) i q) (getD-listed (rulesOf file .queries) i q lt) (sym (verdict-at i q lt) ∙ e)
+      clear-handed-back i q lt e = theorems.clear-is-sound file admitted (getD (rulesOf file .queries) i q) (mem-getD (rulesOf file .queries) q i lt) (sym (verdict-at i q lt) ∙ e)

@@ -1,10 +1,10 @@
 -- The masks of the stage stand in the first half, so that an atom shows in them whatever becomes of the second; and masks that lose nothing show what they
 -- showed. Assumes nothing.
 use Prim.Native.Nat.{ℕ, zero, suc, _+_, _*_, _^_, _-_, _≤_, _<_}
-use mathlib.Core.Path.{_≡_, refl, sym, ap, subst}
+use mathlib.Core.Path.{_≡_, sym, subst}
 use mathlib.Core.Logic.{⊎-elim}
 use mathlib.Core.List.{List, [], _∷_}
-use native.Mathlib.Nat.{le-of-suc-le-suc, not-suc-le-zero}
+use native.Mathlib.Nat.{not-suc-le-zero}
 use native.Mathlib.Omega.{arith}
 use lib.Dec.{T}
 use lib.ListN.{length, getD}
@@ -13,24 +13,14 @@ use Rattle.meaning.specs.Types.{has}
 use Rattle.meaning.specs.Cells.{cell}
 use Rattle.meaning.proofs.Cells.{cell-lt}
 use Rattle.masks.specs.Masks.{maskPlace, without, Covers, Shown, Keeps}
+use Rattle.masks.proofs.Marks.{length-without, covers-length}
 use Rattle.stages.specs.Search.{predicateMasks, stageMasks, fullFirst}
-
-covers-length : (others row : List ℕ) → Covers others row → length others ≡ length row
-covers-length [] [] h = refl
-covers-length [] (d ∷ row) h = absurd h
-covers-length (w ∷ others) [] h = absurd h
-covers-length (w ∷ others) (d ∷ row) h = ap suc (covers-length others row (h .1))
 
 covers-below : (others row : List ℕ) → Covers others row → All (λ d. d < 16) row → All (λ w. w < 17) others
 covers-below [] [] h b = tt
 covers-below [] (d ∷ row) h b = absurd h
 covers-below (w ∷ others) [] h b = absurd h
 covers-below (w ∷ others) (d ∷ row) h b = (⊎-elim (λ e. omega (arith, e)) (λ e. omega (arith, e, b .0)) (h .0), covers-below others row (h .1) (b .1))
-
-length-without : (a : ℕ) (row : List ℕ) → a < length row → suc (length (without a row)) ≡ length row
-length-without a [] lt = absurd (not-suc-le-zero lt)
-length-without zero (d ∷ row) lt = refl
-length-without (suc a) (d ∷ row) lt = ap suc (length-without a row (le-of-suc-le-suc lt))
 
 without-below : (P : ℕ → Type 0) (a : ℕ) (row : List ℕ) → All P row → All P (without a row)
 without-below P a [] h = go a
@@ -53,7 +43,7 @@ module _ (p : ℕ) (row : List ℕ) (few : p < 16) (narrow : length row ≤ 3) (
   -- each mask of the atom is in the first half
   inside : (a : ℕ) → a < length row → (others : List ℕ) → Covers others (without a row) → maskPlace (fullFirst p) (length row) a others < stageMasks
   inside a lt others h =
-      let size : length others ≡ length row - 1 = omega (arith, covers-length others (without a row) h, length-without a row lt) in
+      let size : length others ≡ length row - 1 = omega (arith, covers-length others (without a row) h, length-without row a lt) in
       let c = subst (λ (n : ℕ). cell 17 others < 17 ^ n) size (cell-lt 17 others (covers-below others (without a row) h (without-below (λ d. d < 16) a row below))) in
       omega (arith, few-masks (length row) a (cell 17 others) narrow lt c)
 
