@@ -5,7 +5,7 @@ use mathlib.Core.List.{List, [], _∷_}
 use lib.Dec.{eqb, leb, ltb}
 use lib.ListN.{length, getD, take, drop}
 use Rattle.meaning.specs.Lists.{same}
-use Rattle.meaning.specs.Refusals.{refused, accepted}
+use Rattle.meaning.specs.Refusals.{refused, accepted, Answer as Answered}
 use Rattle.meaning.specs.Files.{fileAnswer}
 use Rattle.vectors.specs.declared.Number.{Number}
 use Rattle.vectors.specs.declared.Number.the-variants.{Is, No}
