@@ -1,2 +1,3 @@
 pub mod Ready
 pub mod Answering
+pub mod Limits

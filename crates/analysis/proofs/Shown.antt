@@ -3,24 +3,15 @@ use Prim.Native.Nat.{ℕ, _≤_}
 use mathlib.Core.Path.{_≡_, sym, ap, subst, _∙_}
 use mathlib.Core.List.{List}
 use native.Mathlib.Omega.{arith}
-use lib.ListN.{length, getD, take, drop, length-append}
-use lib.Seq.{take-at}
+use lib.ListN.{length, getD, take}
 use Rattle.meaning.specs.Lists.{All}
 use Rattle.meaning.specs.Cells.{cells}
-use Rattle.meaning.specs.Calls.{statesOf, modelOf, verdictsOf, written}
+use Rattle.meaning.specs.Calls.{statesOf, modelOf, verdictsOf}
 use Rattle.refusals.specs.declared.Known.{Known}
 use Rattle.refusals.specs.Known.{Knows, fieldsRead}
 use Rattle.accept.proofs.Answering.{accepted-few}
 use Rattle.analysis.specs.Given.{Filled}
-use Rattle.analysis.proofs.Handed.{few-predicates, fit-predicates, model-size, verdicts-needed, predicates-fit}
-
--- a buffer with needed bytes written has room for them, and they are its first
-module _ (needed buffer : List ℕ) (is : buffer ≡ written needed buffer) {n : ℕ} (e : n ≡ length needed) where
-  pub holds-room : n ≤ length buffer
-  holds-room = omega (arith, e, ap length is, length-append needed (drop (length needed) buffer))
-
-  pub holds-first : take n buffer ≡ needed
-  holds-first = ap (take n) is ∙ take-at needed (drop (length needed) buffer) n (sym e)
+use Rattle.results.proofs.Handed.{few-predicates, fit-predicates, model-size, verdicts-needed, predicates-fit}
 
 module _ {file : List ℕ} {m : ℕ} {states marks verdicts : List ℕ} (f : Filled file m states marks verdicts) {known : Known} (knows : Knows known (fieldsRead file)) where
   pub shown-few : m ≤ 16

@@ -25,12 +25,12 @@ use Rattle.meaning.proofs.Setting.{eachState}
 use Rattle.meaning.proofs.Stages.{stage-bits}
 use Rattle.meaning.proofs.Rising.{Rising}
 use Rattle.meaning.proofs.Answers.{zero-accepted}
-use Rattle.meaning.proofs.Calls.{analysis-zero, analysis-filled}
+use Rattle.meaning.proofs.Calls.{marks-length, analysis-zero, analysis-filled}
 use Rattle.meaning.proofs.Theorems as theorems
 use Rattle.accept.specs.Accepted.{answered}
 use Rattle.analysis.specs.declared.Analysis.{Analysis}
 use Rattle.analysis.specs.Given.{given}
-use Rattle.analysis.proofs.Fronts.{written-again, getD-mapped}
+use Rattle.results.proofs.Fronts.{written-again, getD-mapped}
 use Rattle.analysis.proofs.Ends.{room}
 
 -- a byte of the needed ones
@@ -154,7 +154,7 @@ module _ (file : List ℕ) (before after : Buffers) (r : Analysis) (is : given r
           let i : ℕ = place (length (statesOf file)) (predicateArities file) p row in
           let here : getD (after .marks) i 0 ≡ getD (modelOf file) i 0 =
           ap (λ (b : Buffers). getD (b .marks) i 0) after-is
-          ∙ needed-at (modelOf file) (before .marks) i (subst (λ (n : ℕ). i < n) (sym (theorems.marks-needed file admitted)) (place-lt (length (statesOf file)) (predicateArities file) p row atom)) in
+          ∙ needed-at (modelOf file) (before .marks) i (subst (λ (n : ℕ). i < n) (sym (marks-length file)) (place-lt (length (statesOf file)) (predicateArities file) p row atom)) in
           let one = one-marked (getD (modelOf file) i 0) (stage-bits (length (statesOf file)) (interpretationOf file) (predicateArities file) (rulesOf file .clauses) _ i) in
           let least = theorems.model-is-least file admitted p row atom in
           (λ e. least .0 (one .0 (sym here ∙ e)), λ h. here ∙ one .1 (least .1 h)))

@@ -9,7 +9,8 @@ use Rattle.meaning.specs.Files.{rulesOf}
 use Rattle.meaning.specs.Calls.{roundsOf, atomsOf}
 use Rattle.lines.specs.Lines.{statesWord, modelWord, roundsWord, queriesWord, countLine, countsLine, stateText, queryText, statesText, queriesText}
 use Rattle.lines.specs.Listing.{statesLine, stateLine, modelLine, queriesLine, queryLine, placeLine, modelText, pieces, piece, Results}
-use Rattle.lines.proofs.Numbers.{pieces-are, verdicts-length, piece-states, piece-state, piece-model, piece-place, piece-queries, piece-query}
+use Rattle.meaning.proofs.Calls.{verdicts-length}
+use Rattle.lines.proofs.Numbers.{pieces-are, piece-states, piece-state, piece-model, piece-place, piece-queries, piece-query}
 
 -- the first of the pieces of the states, of the model and of the queries, and the others
 module _ (types : List (List ℕ)) (states : List ℕ) where

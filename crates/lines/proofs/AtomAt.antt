@@ -18,7 +18,9 @@ use Rattle.refusals.specs.Known.{Knows, fieldsRead}
 use Rattle.lines.specs.Lines.{namedText}
 use Rattle.lines.specs.Listing.{atomLine}
 use Rattle.lines.proofs.Sizes.{named-short}
-use Rattle.lines.proofs.Found.{predicates-small, states-few, states-some, arity-known, NameIn, predicate-name}
+use Rattle.accept.proofs.Answering.{accepted-few}
+use Rattle.accept.proofs.Limits.{predicates-small, states-some}
+use Rattle.lines.proofs.Found.{arity-known, NameIn, predicate-name}
 
 -- the first of a row's places, and a content without its first byte
 row-taken : (m n c k i : ℕ) → i ≡ n → take i (rowOf m n c ++ replicate k 0) ≡ rowOf m n c
@@ -45,7 +47,7 @@ module _ (file : List ℕ) (e : fileAnswer file ≡ accepted) (known : Known) (k
     pub row-asked : (1 ≤ m) × (m ≤ 16) × (getD (known .predicates) p 0 ≤ 4) × (c < m ^ getD (known .predicates) p 0)
     row-asked = (
       omega (arith, states-some file e),
-      omega (arith, states-few file e),
+      omega (arith, accepted-few file e),
       omega (arith, arity-is, arity-small),
       subst (λ (n : ℕ). c < m ^ n) (sym arity-is) inside,
     )
@@ -86,4 +88,4 @@ module _ (file : List ℕ) (e : fileAnswer file ≡ accepted) (known : Known) (k
             (named-short (getD (names (rulesOf file .predicates)) p []) (rowOf m arity c)
             (subst (λ (l : List ℕ). length l ≤ 8) (named .name) (named .short))
             (omega (arith, length-rowOf m arity c, arity-small))
-            (All-map (rowOf m arity c) (λ d h. omega (arith, states-few file e)) (rowOf-range m arity c inside)))
+            (All-map (rowOf m arity c) (λ d h. omega (arith, accepted-few file e)) (rowOf-range m arity c inside)))

@@ -8,18 +8,18 @@ use mathlib.Core.List.{List, [], _∷_, _++_}
 use native.Mathlib.Nat.{le-of-suc-le-suc, not-suc-le-zero, zero-add, suc-add, add-suc, add-zero}
 use native.Mathlib.Omega.{arith}
 use lib.Dec.{eqb}
-use lib.ListN.{length, getD, length-append, length-map, List·getD-append}
+use lib.ListN.{length, getD, length-append, List·getD-append}
 use lib.Seq.{getD-append-add}
 use borrow.Author.Tests.{eq-eqb, ne-eqb}
 use Rattle.meaning.specs.Lists.{table}
 use Rattle.meaning.specs.Legal.{Declared}
 use Rattle.meaning.specs.Cells.{cell, rowOf, start, cells}
-use Rattle.meaning.specs.Clauses.{marked, rounds, model}
+use Rattle.meaning.specs.Clauses.{marked}
 use Rattle.meaning.specs.Files.{rulesOf}
-use Rattle.meaning.specs.Calls.{predicateArities, interpretationOf, statesOf, modelOf, verdictOf, verdictsOf}
+use Rattle.meaning.specs.Calls.{predicateArities, statesOf, modelOf}
 use Rattle.meaning.proofs.Lists.{length-table, getD-table}
 use Rattle.meaning.proofs.Cells.{cell-of-row, cell-lt, place-onto}
-use Rattle.meaning.proofs.Stages.{length-stage}
+use Rattle.meaning.proofs.Calls.{marks-length}
 use Rattle.lines.specs.Listing.{statesLine, stateLine, modelLine, atomLine, queriesLine, queryLine, placesFrom, placeLine, allPieces, pieces, piece}
 
 module _ (file : List ℕ) where
@@ -29,17 +29,6 @@ module _ (file : List ℕ) where
   abbrev queries : ℕ
   queries = length (rulesOf file .queries)
 
-  -- the marks have a byte for each domain atom
-  pub marks-length : length (modelOf file) ≡ cells m (predicateArities file)
-  unfolding modelOf model
-  marks-length =
-      length-stage m (interpretationOf file) (predicateArities file) (rulesOf file .clauses) (rounds m (interpretationOf file) (predicateArities file) (rulesOf file .clauses))
-
-  -- the verdicts one for each query
-  pub verdicts-length : length (verdictsOf file) ≡ queries
-  unfolding verdictsOf
-  verdicts-length = length-map (rulesOf file .queries) (verdictOf file)
-
   length-places : (p : ℕ) (later : List ℕ) → length (placesFrom file p later) ≡ cells m later
   length-places p [] = refl
   length-places p (n ∷ later) = length-append (table (m ^ n) _) (placesFrom file (suc p) later) ∙ ap₂ _+_ (length-table (m ^ n) _) (length-places (suc p) later)
@@ -48,7 +37,7 @@ module _ (file : List ℕ) where
   places = placesFrom file 0 (predicateArities file)
 
   places-length : length places ≡ length (modelOf file)
-  places-length = length-places 0 (predicateArities file) ∙ sym marks-length
+  places-length = length-places 0 (predicateArities file) ∙ sym (marks-length file)
 
   abbrev front : List (List ℕ)
   front = statesLine file ∷ table m (stateLine file)
@@ -168,7 +157,7 @@ module _ (file : List ℕ) where
   place-unmarked : (j : ℕ) → j < length (modelOf file) → getD (modelOf file) j 0 ≡ 0 → placeLine file j ≡ []
   unfolding placeLine
   place-unmarked j lt is =
-      let w = place-onto m (predicateArities file) j (subst (λ (n : ℕ). j < n) marks-length lt) in
+      let w = place-onto m (predicateArities file) j (subst (λ (n : ℕ). j < n) (marks-length file) lt) in
       let p : ℕ = w .0 in
       let row : List ℕ = w .1 in
       let c : ℕ = cell m row in

@@ -1,7 +1,6 @@
 -- The lines of a listing by what they say (01, "Rule set E and its neighbours"). One space parts the fields of a line, and each line ends
 -- with byte 10.
-use Prim.Native.Nat.{ℕ, zero, suc, _+_}
-use mathlib.Core.Path.{_≡_}
+use Prim.Native.Nat.{ℕ, zero, suc}
 use mathlib.Core.Bool.{cond}
 use mathlib.Core.List.{List, [], _∷_, _++_}
 use lib.Dec.{eqb}
@@ -9,7 +8,6 @@ use lib.ListN.{length, getD}
 use Rattle.meaning.specs.Types.{has}
 use Rattle.meaning.specs.Refusals.{Answer}
 use Rattle.text.specs.Decimal.{decimal}
-use Rattle.text.specs.Pasted.{pasted}
 
 abbrev pub space : ℕ
 space = 32
@@ -101,7 +99,3 @@ statesText types states (suc i) = stateText types i (getD states i 0)
 unfoldable pub queriesText : List ℕ → ℕ → List ℕ
 queriesText verdicts zero = countLine queriesWord (length verdicts)
 queriesText verdicts (suc i) = queryText i (getD verdicts i 0)
-
--- what a function that puts bytes into a buffer from a position on leaves behind: the buffer with the bytes, and the position past them
-abbrev pub Put : List ℕ → ℕ → List ℕ → List ℕ → ℕ → Type 0
-Put before at bytes after next = (after ≡ pasted before at bytes) × (next ≡ at + length bytes)

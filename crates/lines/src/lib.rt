@@ -13,7 +13,8 @@ ghost use Rattle.meaning.specs.Refusals.{accepted, refused};
 ghost use Rattle.meaning.specs.Files.{rulesOf, fileAnswer};
 ghost use Rattle.meaning.specs.Calls.{predicateArities, statesOf, roundsOf, modelOf, atomsOf};
 ghost use Rattle.refusals.specs.Known.{Knows, fieldsRead};
-ghost use Rattle.lines.specs.Lines.{openWord, clearWord, numberAfter, countLine, countsLine, refusedLine, heldName, heldNames, orDash, stateText, rowText, namedText, queryText, statesText, queriesText, Put};
+ghost use Rattle.text.specs.Pasted.{Put};
+ghost use Rattle.lines.specs.Lines.{openWord, clearWord, numberAfter, countLine, countsLine, refusedLine, heldName, heldNames, orDash, stateText, rowText, namedText, queryText, statesText, queriesText};
 ghost use Rattle.lines.specs.Listing.{atomLine, placeLine, modelText, pieces, piece, Results};
 
 // A place of the marks: the predicate whose segment it lies in, and the cell that it is there.

@@ -6,12 +6,15 @@ use mathlib.Core.Bool.{Bool, true, false, cond, not}
 use mathlib.Core.List.{List}
 use native.Mathlib.Omega.{arith}
 use lib.Dec.{T, eqb, eqb→eq}
-use lib.ListN.{length, replicate}
+use lib.ListN.{length, replicate, length-map}
 use Rattle.meaning.specs.Refusals.{Answer, ok, andThen, refuseIf}
 use Rattle.meaning.specs.Files.{fileAnswer, rulesOf}
+use Rattle.meaning.specs.Cells.{cells}
+use Rattle.meaning.specs.Clauses.{rounds, model}
 use Rattle.meaning.specs.Certificates.{encodeSheet, sheetAnswer}
-use Rattle.meaning.specs.Calls.{statesOf, interpretationOf, predicateArities, tablesOf, modelOf, roundsOf, atomsOf, written, holds, filled, Buffers, longEnough, Lent, lentEnough, analysisAnswer, analysed, writingAnswer, writtenIn, lentAnswer, checkAnswer, checked}
+use Rattle.meaning.specs.Calls.{statesOf, interpretationOf, predicateArities, tablesOf, modelOf, roundsOf, atomsOf, verdictOf, verdictsOf, written, holds, filled, Buffers, longEnough, Lent, lentEnough, analysisAnswer, analysed, writingAnswer, writtenIn, lentAnswer, checkAnswer, checked}
 use Rattle.meaning.proofs.Answers.{then-next}
+use Rattle.meaning.proofs.Stages.{length-stage}
 use Rattle.meaning.proofs.Lists.{decide, clash, cond-yes, cond-no, not-intro}
 
 -- a number that is 0, as a test
@@ -136,3 +139,13 @@ check-buffers file sheet before = go (decide (ok a))
     go : T (ok a) ⊎ T (not (ok a)) → ((a .number ≢ 0) × (cond (ok a) done before ≡ before)) ⊎ ((a .number ≡ 0) × (cond (ok a) done before ≡ done))
     go (inl t) = inr (ok-zero a .0 t, cond-yes (ok a) done before t)
     go (inr t) = inl (λ e. clash (ok a) (ok-zero a .1 e) t, cond-no (ok a) done before t)
+
+-- the marks have a byte for each domain atom, the verdicts one for each query
+pub marks-length : (file : List ℕ) → length (modelOf file) ≡ cells (length (statesOf file)) (predicateArities file)
+unfolding modelOf model
+marks-length file =
+    length-stage (length (statesOf file)) (interpretationOf file) (predicateArities file) (rulesOf file .clauses) (rounds (length (statesOf file)) (interpretationOf file) (predicateArities file) (rulesOf file .clauses))
+
+pub verdicts-length : (file : List ℕ) → length (verdictsOf file) ≡ length (rulesOf file .queries)
+unfolding verdictsOf
+verdicts-length file = length-map (rulesOf file .queries) (verdictOf file)

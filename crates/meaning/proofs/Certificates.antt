@@ -1,6 +1,6 @@
 -- Sheets and their bytes, and the check: it accepts exactly the valid certificates, and each refusal names the lowest place that it fits.
 -- Assumes nothing.
-use Prim.Native.Nat.{ℕ, zero, suc, _^_, _<_, suc-le-suc, max}
+use Prim.Native.Nat.{ℕ, zero, suc, _+_, _*_, _^_, _<_, suc-le-suc, max}
 use mathlib.Core.Path.{_≡_, refl, sym, ap, ap₂, subst, _∙_}
 use mathlib.Core.Logic.{_↔_, _≢_, _⊎_, inl, inr, ⊎-elim, Iff·trans}
 use mathlib.Core.Bool.{Bool, true, false, cond, not, _&&_, _||_}
@@ -25,6 +25,7 @@ use Rattle.meaning.proofs.Contents.{declared-exact}
 use Rattle.meaning.proofs.Lists.{decide, trichotomy, T-of, clash, not-not, not-not-intro, not-intro, both, both-of, neither, neither-of, any-find, any-give, all-facts, facts-all, All-map, mem-getD, mem-place, anyBelow-find, anyBelow-give, Lowest, lowest-law, lowest-is, lowest-none, eq-same, same-eq, same-refl}
 use Rattle.meaning.proofs.Fields.{word-halves, fields-each, fields-joined, fields-nil, encodeWhole, fields-whole, FieldBytes, fields-bytes, contentsOf-append, contentsOf-same, contentsOf-other, NoneBy, NoneBy-places, NoField, NoField-append, firstField-none}
 use Rattle.meaning.proofs.Cells.{valuation-of-number, number-of-valuation}
+use Rattle.meaning.proofs.Sums.{sum}
 
 -- the fields of a sheet
 abbrev pub stateField : ℕ → Field
@@ -80,6 +81,17 @@ in-sheet xs atoms p row = (
   (λ h. subst (List·Memᴰ (p ∷ row)) (sym (sheet-injective xs (h .0) atoms (h .1) (h .2) .1)) (h .3)),
   (λ h. (xs, atoms, refl, h)),
 )
+
+-- a sheet has 5 bytes for each state, and for each atom 4 and as many as its arity
+pub sheet-length : (xs : List ℕ) (atoms : List (List ℕ)) → length (encodeSheet xs atoms) ≡ length xs * 5 + sum (map (λ (a : List ℕ). 3 + length a) atoms)
+unfolding encodeSheet
+sheet-length [] [] = refl
+sheet-length [] (a ∷ atoms) =
+    let w = sheet-length [] atoms in
+    omega (arith, w, length-append (encodeField atomTag a) (joined (map (encodeField atomTag) atoms)))
+sheet-length (x ∷ xs) atoms =
+    let w = sheet-length xs atoms in
+    omega (arith, w, length-append (encodeField stateTag (stateBytes x)) (encodeSheet xs atoms))
 
 -- each content has a declared predicate and as many bytes as its arity after it
 abbrev pub AtomContents : List ℕ → List (List ℕ) → Type 0
@@ -515,6 +527,14 @@ refusedAt-accepted number none other = ((λ e. refl), (λ e. refl))
 refusedAt-accepted number (some i) other =
     ((λ e. absurd (other (ap (λ (a : Answer). a .number) e))), (λ e. absurd (Option·some-ne-none i e)))
 
+refusedAt-zero : (number : ℕ) (o : Option ℕ) (after : Answer)
+    → number ≢ 0
+    → (after .number ≡ 0 → after ≡ accepted)
+    → refusedAt number o after .number ≡ 0
+    → refusedAt number o after ≡ accepted
+refusedAt-zero number none after other h = h
+refusedAt-zero number (some i) after other h = λ e. absurd (other e)
+
 -- an atom is among the contents of a sheet's atom fields exactly if it is in the sheet
 among-is : (xs : List ℕ) (atoms : List (List ℕ)) (sheet : List ℕ)
     → sheet ≡ encodeSheet xs atoms
@@ -602,6 +622,15 @@ module _ (states : List ℕ) (interpret : ℕ → List ℕ → ℕ) (preds : Lis
       (refusedAt-past 11 0 0 (differAt sheet) _ (omega arith)
       (refusedAt-past 12 0 0 (wrongAt sheet) _ (omega arith)
       (refusedAt-accepted 13 (violationAt sheet) (omega arith))))
+
+  -- a number 0 stands with place 0
+  pub check-zero : (sheet : List ℕ) → sheetAnswer states interpret preds clauses sheet .number ≡ 0 → sheetAnswer states interpret preds clauses sheet ≡ accepted
+  unfolding sheetAnswer checkFields
+  check-zero sheet =
+      refusedAt-zero 10 (misplacedAt sheet) _ (omega arith)
+      (refusedAt-zero 11 (differAt sheet) _ (omega arith)
+      (refusedAt-zero 12 (wrongAt sheet) _ (omega arith)
+      (refusedAt-zero 13 (violationAt sheet) accepted (omega arith) (λ e. refl))))
 
   -- a sheet that passes 10 to 12 is laid out and carries the states, and the other way round
   passed-laid : (sheet : List ℕ)

@@ -1,17 +1,17 @@
 -- The laws of bytes as fields: what `fields` does with encoded fields, and back; the lowest field that passes a test; contents by tag.
 -- Assumes nothing.
 use Prim.Native.Nat.{ℕ, zero, suc, _/_, _%_, _≤_, _<_, suc-le-suc}
-use mathlib.Core.Path.{_≡_, refl, sym, ap, ap₂, subst, _∙_}
+use mathlib.Core.Path.{_≡_, refl, sym, ap, ap₂, subst, subst₂, _∙_}
 use mathlib.Core.Logic.{_↔_}
 use mathlib.Core.Bool.{Bool, true, false, cond, not}
 use mathlib.Core.List.{List, [], _∷_, _++_, map, append-nil, append-assoc}
 use mathlib.Core.Option.{none, some}
-use native.Mathlib.Nat.{not-suc-le-zero, le-of-suc-le-suc, zero-lt-suc, le-refl}
+use native.Mathlib.Nat.{not-suc-le-zero, le-of-suc-le-suc, zero-lt-suc, le-refl, le-of-lt}
 use native.Mathlib.Omega.{arith}
 use lib.Dec.{T, eqb, leb, eqb-refl, leb→le, le→leb}
 use lib.Arith.{digits-div, digits-mod}
-use lib.ListN.{length, getD, take, drop, length-append, take-append-drop}
-use lib.Seq.{append-snoc, length-take-le, take-at, drop-at}
+use lib.ListN.{length, getD, take, drop, length-append, take-append-drop, List·getD-append}
+use lib.Seq.{append-snoc, length-take-le, take-at, drop-at, take-append-seam, take-append-le, getD-append-seam}
 use Rattle.meaning.specs.Lists.{All, joined}
 use Rattle.meaning.specs.Fields.{Bytes, Field, whole, cut, word, Front, empty, short, front, frontOf, onFront, fieldsWithin, fields, contentsOf, encodeField, firstField}
 use Rattle.meaning.specs.Refusals.{isCut}
@@ -328,3 +328,20 @@ module _ (test : List Field → Field → Bool) where
     where
       passes : ℕ → Bool
       passes k = test (take k fs) (getD fs k cut)
+
+-- the first field that passes, after fields of which none does
+pub first-after : (test : List Field → Field → Bool) (done : List Field) (f : Field) (later : List Field)
+    → NoField test [] done
+    → T (test done f)
+    → firstField test (done ++ f ∷ later) ≡ some (length done)
+first-after test done f later fine t =
+    firstField-some test (done ++ f ∷ later) (length done) .1 (
+      rw (length-append done (f ∷ later)) (omega arith),
+      subst₂ (λ (d : List Field) (g : Field). T (test d g)) (sym (take-append-seam done (f ∷ later))) (sym (getD-append-seam done f later cut)) t,
+      λ i lt.
+          subst₂
+          (λ (d : List Field) (g : Field). T (not (test d g)))
+          (sym (take-append-le i done (f ∷ later) (le-of-lt lt)))
+          (sym (List·getD-append done (f ∷ later) cut i lt))
+          (NoField-at test done fine i lt),
+    )

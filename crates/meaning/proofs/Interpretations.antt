@@ -1,7 +1,7 @@
--- Two interpretations that agree on declared symbols over states give the same instances, stages, model and verdicts. Assumes nothing.
+-- Two interpretations that agree on declared symbols over states give the same instances, stages, model, verdicts and violations. Assumes nothing.
 use Prim.Native.Nat.{ℕ, zero, suc, _^_, _<_}
 use mathlib.Core.Path.{_≡_, refl, sym, ap, ap₂, subst, _∙_}
-use mathlib.Core.Bool.{Bool, _&&_, _||_}
+use mathlib.Core.Bool.{Bool, not, _&&_, _||_}
 use mathlib.Core.List.{List, [], _∷_}
 use mathlib.Core.Option.{Option·getD}
 use native.Mathlib.Omega.{arith}
@@ -13,6 +13,7 @@ use Rattle.meaning.specs.Legal.{Declared, WellTerm, WellTerms, WellAtom,
 use Rattle.meaning.specs.Types.{bit}
 use Rattle.meaning.specs.Cells.{rowOf, cells}
 use Rattle.meaning.specs.Clauses.{IsValuation, stateOf, statesOf, instanceIn, place, bringsUnder, marked, brings, next, stage, rounds, model, meetsAll, isOpen}
+use Rattle.meaning.specs.Certificates.{among, violated, violatedAt}
 use Rattle.meaning.proofs.Setting.{InRange}
 use Rattle.meaning.proofs.Stages.{states-lt, length-statesOf}
 use Rattle.meaning.proofs.Cells.{valuation-of-number}
@@ -85,3 +86,19 @@ module _ (arities : List ℕ) (m : ℕ) (I J : ℕ → List ℕ → ℕ) (range 
         below-same (m ^ length (q .conditions)) _ _ (λ n lt.
         ap (λ (b : Bool). meetsAll sets (q .conditions) (rowOf m (length (q .conditions)) n) && b)
         (instance-same (length (q .conditions)) (rowOf m (length (q .conditions)) n) (valuation-of-number m (length (q .conditions)) n lt) preds S (q .atom) (h .2)))
+
+    violated-same : (atoms : List (List ℕ)) (c : Clause) → WellClause arities preds c → violated m I atoms c ≡ violated m J atoms c
+    unfolding violated
+    violated-same atoms c h =
+        below-same (m ^ c .variables) _ _ (λ n lt.
+        let ν = rowOf m (c .variables) n in
+        let val = valuation-of-number m (c .variables) n lt in
+        ap₂ (λ (a b : Bool). a && not b) (body-same (c .variables) ν val preds (among atoms) (c .body) (h .3)) (instance-same (c .variables) ν val preds (among atoms) (c .head) (h .2)))
+
+    pub violatedAt-same : (atoms : List (List ℕ)) (clauses : List Clause)
+        → All (WellClause arities preds) clauses
+        → (i : ℕ)
+        → violatedAt m I atoms clauses i ≡ violatedAt m J atoms clauses i
+    violatedAt-same atoms [] well i = refl
+    violatedAt-same atoms (c ∷ clauses) well zero = violated-same atoms c (well .0)
+    violatedAt-same atoms (c ∷ clauses) well (suc i) = violatedAt-same atoms clauses (well .1) i

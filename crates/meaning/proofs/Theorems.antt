@@ -16,7 +16,7 @@ use Rattle.meaning.specs.Legal.{Legal, Declared, NoneTwice, WellClause, 
 use Rattle.meaning.specs.Types.{has, bit, IsGround, AreGround, OfType, typesOf}
 use Rattle.meaning.specs.Cells.{cell, start, cells}
 use Rattle.meaning.specs.States.{indexOf}
-use Rattle.meaning.specs.Clauses.{AtomSet, IsAtom, place, marked, Closed, stage, rounds, model, Open, isOpen}
+use Rattle.meaning.specs.Clauses.{AtomSet, IsAtom, place, marked, Closed, stage, Open, isOpen}
 use Rattle.meaning.specs.Clauses as Clauses
 use Rattle.meaning.specs.Ground.{NoneDerivable}
 use Rattle.meaning.specs.Fields.{Bytes, cut, encodeField, fields}
@@ -199,15 +199,22 @@ module _ (file : List ℕ) (admitted : Admitted file) where
   abbrev Underivable : Query → Type 1
   Underivable q = NoneDerivable (symbolArities file) productions clauses q
 
+  -- what it is for a query to be laid out: its conditions and its atom are over what the file declares
+  abbrev IsQuery : Query → Type 0
+  IsQuery q = WellQuery types (symbolArities file) (predicateArities file) q
+
+  pub queries-are-laid-out : (q : Query) → List·Memᴰ q (rulesOf file .queries) → IsQuery q
+  unfolding symbolArities predicateArities
+  queries-are-laid-out q listed = All-find (WellQuery types (symbolArities file) (predicateArities file)) (rulesOf file .queries) (admitted .legal .queries) q listed
+
   -- A query with no instance in a closed set of domain atoms has no derivable ground instance, at any height.
   closed-sound : (S : AtomSet)
       → Closed (length (statesOf file)) (interpretationOf file) clauses S
       → (q : Query)
-      → List·Memᴰ q (rulesOf file .queries)
+      → IsQuery q
       → ¬ OpenIn S q
       → Underivable q
-  unfolding symbolArities predicateArities
-  closed-sound S closed q listed clear =
+  closed-sound S closed q well clear =
       Soundness.clear-sound
       (symbolArities file)
       (predicateArities file)
@@ -221,7 +228,7 @@ module _ (file : List ℕ) (admitted : Admitted file) where
       clauses
       wellClauses
       q
-      (All-find (WellQuery types (symbolArities file) (predicateArities file)) (rulesOf file .queries) (admitted .legal .queries) q listed)
+      well
       S
       closed
       clear
@@ -229,7 +236,7 @@ module _ (file : List ℕ) (admitted : Admitted file) where
   -- CLEAR is sound, at any height.
   pub clear-is-sound : (q : Query) → List·Memᴰ q (rulesOf file .queries) → verdictOf file q ≡ 0 → Underivable q
   clear-is-sound q listed e =
-      closed-sound (InMarks (modelOf file)) model-is-closed q listed
+      closed-sound (InMarks (modelOf file)) model-is-closed q (queries-are-laid-out q listed)
       (λ o. zero-ne-one (sym e ∙ verdicts-are-exact q .1 o))
 
   -- what it is for a sheet to pass for the file
@@ -250,14 +257,10 @@ module _ (file : List ℕ) (admitted : Admitted file) where
       ↔ Certificates.LowestViolation (length (statesOf file)) (interpretationOf file) clauses (InSheet sheet) i
   violations-are-exact = Certificates.check-violation (statesOf file) (interpretationOf file) (predicateArities file) clauses
 
-  -- Certificates are sound: a valid one without an instance of a query leaves no ground instance of it derivable, at any height.
-  pub certificates-are-sound : (sheet : List ℕ)
-      → ValidSheet sheet
-      → (q : Query)
-      → List·Memᴰ q (rulesOf file .queries)
-      → ¬ OpenIn (InSheet sheet) q
-      → Underivable q
-  certificates-are-sound sheet valid q listed clear = closed-sound (InSheet sheet) (valid .closed) q listed clear
+  -- Certificates are sound: a valid one without an instance of a query, one of the file's or any other, leaves no ground instance of it derivable,
+  -- at any height.
+  pub certificates-are-sound : (sheet : List ℕ) → ValidSheet sheet → (q : Query) → IsQuery q → ¬ OpenIn (InSheet sheet) q → Underivable q
+  certificates-are-sound sheet valid q well clear = closed-sound (InSheet sheet) (valid .closed) q well clear
 
   -- Every sheet that the writer may write is valid.
   pub written-is-valid : (order : List (List ℕ)) → OrderOf file order → ValidSheet (encodeSheet (statesOf file) order)
@@ -302,15 +305,6 @@ module _ (file : List ℕ) (admitted : Admitted file) where
   written-is-least order is p row listed sheet valid =
       let w = MarkedAtoms.order-exact (length (statesOf file)) (predicateArities file) (modelOf file) order is p row .0 listed in
       model-is-least p row (w .0) .0 (w .1) (InSheet sheet) (valid .closed)
-
-  -- The needed lengths: a place for each table cell and each domain atom.
-  pub tables-needed : length (tablesOf file) ≡ cells (length (statesOf file)) (symbolArities file)
-  unfolding tablesOf
-  tables-needed = States.length-tables (stepOf file) (statesOf file) (symbolArities file)
-
-  pub marks-needed : length (modelOf file) ≡ cells (length (statesOf file)) (predicateArities file)
-  unfolding modelOf model
-  marks-needed = Stages.length-stage (length (statesOf file)) (interpretationOf file) (predicateArities file) clauses (rounds (length (statesOf file)) (interpretationOf file) (predicateArities file) clauses)
 
 -- A written sheet has the same length whatever the order of its atoms.
 pub written-length : (file : List ℕ) (order : List (List ℕ))

@@ -1,23 +1,23 @@
 -- The loop over the fields: what holds after some of them are read, and what follows at each way out. Assumes nothing.
 use Prim.Native.Nat.{ℕ, suc, _+_, _≤_, _<_, zero-le}
-use mathlib.Core.Path.{_≡_, refl, sym, ap, ap₂, subst, subst₂, _∙_}
+use mathlib.Core.Path.{_≡_, refl, sym, ap, ap₂, subst, _∙_}
 use mathlib.Core.Logic.{_⊎_, inl, inr, ⊎-elim, _≢_}
 use mathlib.Core.Bool.{cond, not}
 use mathlib.Core.List.{List, [], _∷_, _++_, append-nil}
 use mathlib.Core.Option.{none, some}
-use native.Mathlib.Nat.{le-of-lt, le-refl, le-of-eq, eq-or-lt-of-le, add-zero, add-assoc}
+use native.Mathlib.Nat.{le-refl, le-of-eq, eq-or-lt-of-le, add-zero, add-assoc}
 use native.Mathlib.Numerals.{add-one}
 use native.Mathlib.Omega.{arith}
 use lib.Dec.{T, eqb, eqb→eq, eqb-refl}
-use lib.ListN.{length, drop, length-append, List·getD-append}
-use lib.Seq.{take-append-seam, take-append-le, getD-append-seam}
+use lib.ListN.{length, drop, length-append}
+use lib.Seq.{take-append-seam, getD-append-seam}
 use Rattle.meaning.specs.Lists.{All}
 use Rattle.meaning.specs.Fields.{Field, whole, cut, Front, empty, short, front, frontOf, onFront, fields, contentsOf}
 use Rattle.meaning.specs.Refusals.{refuseIf, noConstant, contents, aritiesIn, isRefused, isCut, lastTag, refusal, firstRefused, refused}
 use Rattle.meaning.specs.Limits.{symbol}
 use Rattle.meaning.specs.Files.{answerAt, rulesIn}
 use Rattle.meaning.proofs.Lists.{decide, cond-yes, cond-no, not-intro}
-use Rattle.meaning.proofs.Fields.{fields-step, NoField, NoField-append, NoField-at, firstField-none, firstField-some}
+use Rattle.meaning.proofs.Fields.{first-after, fields-step, NoField, NoField-append, firstField-none}
 use Rattle.meaning.proofs.ByKind.{lastTag-snoc, Rising, contents-below}
 use Rattle.meaning.proofs.Acceptance.{arities-named}
 use Rattle.fields.proofs.Fronts.{front-rest, front-inside}
@@ -121,24 +121,6 @@ pub record Reached (file : List ℕ) (at k last : ℕ) (known : Known) (done : L
 pub reached-none : (file : List ℕ) (known : Known) → Knows known [] → Reached file 0 0 0 known []
 reached-none file known h = record { chain = refl; count = refl; tag = refl; fine = tt; knows = h; inside = zero-le; few = zero-le }
 
--- the first field that is refused, after fields of which none is
-first-after : (done : List Field) (f : Field) (later : List Field)
-    → NoField isRefused [] done
-    → T (isRefused done f)
-    → firstRefused (done ++ f ∷ later) ≡ some (length done)
-unfolding firstRefused
-first-after done f later fine t =
-    firstField-some isRefused (done ++ f ∷ later) (length done) .1 (
-      rw (length-append done (f ∷ later)) (omega arith),
-      subst₂ (λ (d : List Field) (g : Field). T (isRefused d g)) (sym (take-append-seam done (f ∷ later))) (sym (getD-append-seam done f later cut)) t,
-      λ i lt.
-          subst₂
-          (λ (d : List Field) (g : Field). T (not (isRefused d g)))
-          (sym (take-append-le i done (f ∷ later) (le-of-lt lt)))
-          (sym (List·getD-append done (f ∷ later) cut i lt))
-          (NoField-at isRefused done fine i lt),
-    )
-
 module _ (file : List ℕ) (at k last : ℕ) (known : Known) (done : List Field) (r : Reached file at k last known done) where
   split : fields file ≡ done ++ fields (drop at file)
   split = chain-fields file 0 done at (r .chain)
@@ -149,10 +131,11 @@ module _ (file : List ℕ) (at k last : ℕ) (known : Known) (done : List Field)
       → refusal done f ≡ n
       → n ≢ 0
       → Outcome file (refused n k) known
+  unfolding firstRefused
   stop-refused f later n e is pos =
       let whole-file : fields file ≡ done ++ f ∷ later = split ∙ ap (λ (l : List Field). done ++ l) e in
       let first : firstRefused (fields file) ≡ some (length done) =
-      ap firstRefused whole-file ∙ first-after done f later (r .fine) (not-intro (eqb (refusal done f) 0) (λ t. pos (sym is ∙ eqb→eq (refusal done f) 0 t))) in (
+      ap firstRefused whole-file ∙ first-after isRefused done f later (r .fine) (not-intro (eqb (refusal done f) 0) (λ t. pos (sym is ∙ eqb→eq (refusal done f) 0 t))) in (
         ap₂ refused (sym is) (sym (r .count))
             ∙ (sym (ap₂ (λ (d : List Field) (g : Field). refused (refusal d g) (length done)) (take-append-seam done (f ∷ later)) (getD-append-seam done f later cut))
             ∙ sym (ap₂ answerAt whole-file first)),

@@ -1,3 +1,4 @@
 pub mod Decimal
 pub mod Pasted
+pub mod Putting
 pub mod Turns

@@ -17,7 +17,8 @@ use Rattle.meaning.specs.Calls.{Buffers, Analysed, longEnough, analysisAnswer, 
 use Rattle.meaning.proofs.Lists.{both, T-of, same-eq}
 use Rattle.meaning.proofs.Answers.{then-next, then-first}
 use Rattle.text.proofs.Pasted.{take-pasted}
-use Rattle.lines.specs.Lines.{Put, refusedLine}
+use Rattle.text.specs.Pasted.{Put}
+use Rattle.lines.specs.Lines.{refusedLine}
 use Rattle.lines.specs.Listing.{listing, pieces, piece}
 use Rattle.lines.proofs.Pieces.{listing-pieces, pieces-next, listing-refused}
 use Rattle.accept.specs.Accepted.{answered}

@@ -1,5 +1,5 @@
-// Plays the rule files of data/, each with what stands beside it, and compares: of the folders base and full the whole listing, of more whether the
-// file is refused with 1 to 8 and where, or accepted, and of sets the states and the tables.
+// Plays the rule files of data/, each with what stands beside it, and compares: of the folders base, more and full the listing, of sets the states and the
+// tables, of pass the answer to a sheet, and of made the sheet that is written.
 // Prints a line for each difference, and the counts of each folder.
 use accept::Answer;
 use libc::STDOUT_FILENO;
@@ -9,33 +9,29 @@ ghost use Prim.Native.Nat.{_+_, _*_, _≤_, _<_, _-_};
 ghost use mathlib.Core.Path.{_≡_};
 ghost use mathlib.Core.Bool.{true, not, _&&_};
 ghost use lib.Dec.{eqb};
-ghost use lib.ListN.{length, take};
+ghost use lib.ListN.{length, getD, take};
 ghost use Rattle.meaning.specs.Lists.{same};
+ghost use Rattle.meaning.specs.Fields.{word};
 ghost use Rattle.meaning.specs.Refusals.{accepted, refused};
 ghost use Rattle.meaning.specs.Files.{fileAnswer};
 ghost use Rattle.meaning.specs.Calls.{statesOf, roundsOf, atomsOf};
 ghost use Rattle.refusals.specs.Known.{Knows, fieldsRead};
-ghost use Rattle.accept.specs.Accepted.{answered};
 ghost use Rattle.lines.specs.Lines.{refusedLine};
 ghost use Rattle.lines.specs.Listing.{listing, Results};
 ghost use Rattle.analysis.specs.Given.{Filled};
-ghost use Rattle.vectors.specs.Expected.{lineIn, isDigit, numberFrom, isRefusal, expectedOf, sameAnswer, isExpected, standsAt};
+ghost use Rattle.vectors.specs.Expected.{standsAt, IsSheet};
 ghost use Rattle.vectors.specs.Paths.{numbered};
-
-// What some bytes say in decimal.
-pub enum Number {
-    Is(usize),
-    No,
-}
 
 // What of a file is compared with what stands beside it.
 pub enum Way {
-    // Refused or accepted, by the first line of its listing.
-    Answer,
     // The states and the tables.
     States,
     // The whole listing.
     Listing,
+    // The answer to a sheet that is offered.
+    Check,
+    // The sheet that is written.
+    Sheet,
 }
 
 // How a file compares with its listing.
@@ -52,106 +48,8 @@ fn wide(b: u8) -> usize
     b as usize
 }
 
-// The first line of a listing, without its end.
-fn first_line(s: &[u8]) -> &[u8]
-    ensures { λ r. ⌜ now r ≡ lineIn (now (s .entry)) ⌝ }
-{
-    let mut i = 0;
-    while i < s.len() {
-        if s[i] == 10 {
-            return &s[..i];
-        }
-        i += 1;
-    }
-    &s[..i]
-}
-
-fn is_digit(b: u8) -> bool
-    ensures { λ r. ⌜ r ≡ isDigit b ⌝ }
-{
-    (48 <= b) & (b <= 57)
-}
-
-// The number that some bytes write in decimal.
-fn number_of(s: &[u8]) -> Number
-    ensures { λ r. ⌜ r ≡ numberFrom 0 (now (s .entry)) ⌝ }
-{
-    let mut n: usize = 0;
-    let mut i = 0;
-    while i < s.len() {
-        if !is_digit(s[i]) {
-            return Number::No;
-        }
-        if 10000 <= n {
-            return Number::No;
-        }
-        n = n * 10 + wide(s[i] - 48);
-        i += 1;
-    }
-    Number::Is(n)
-}
-
-// Whether a line begins as a refusal with 1 to 8 does, and goes on.
-fn is_refusal(line: &[u8]) -> bool
-    ensures { λ r. ⌜ r ≡ isRefusal (now (line .entry)) ⌝ }
-{
-    if line.len() <= 13 {
-        return false;
-    }
-    if !names::same(&line[..8], b"refused ") {
-        return false;
-    }
-    if line[8] < 49 {
-        return false;
-    }
-    if 56 < line[8] {
-        return false;
-    }
-    names::same(&line[9..13], b" at ")
-}
-
-// What a line expects: a refusal with 1 to 8, or that the file is accepted.
-fn expected_of(line: &[u8]) -> Answer
-    ensures { λ r. ⌜ answered r ≡ expectedOf (now (line .entry)) ⌝ }
-{
-    if !is_refusal(line) {
-        return accept::no_refusal();
-    }
-    let number = wide(line[8] - 48);
-    match number_of(&line[13..]) {
-        Number::Is(place) => accept::refusal(number, place),
-        Number::No => accept::no_refusal(),
-    }
-}
-
-fn is_same(a: Answer, b: Answer) -> bool
-    ensures { λ r. ⌜ r ≡ sameAnswer (answered a) (answered b) ⌝ }
-{
-    (a.number == b.number) & (a.place == b.place)
-}
-
 fn print(text: &[u8]) {
     io::write_all(STDOUT_FILENO, text);
-}
-
-fn print_answer(a: Answer) {
-    if a.number == 0 {
-        print(b"accepted");
-        return;
-    }
-    print(b"refused ");
-    io::print_decimal(STDOUT_FILENO, a.number as u64);
-    print(b" at ");
-    io::print_decimal(STDOUT_FILENO, a.place as u64);
-}
-
-fn print_difference(path: &[u8], wanted: Answer, given: Answer) {
-    print(path);
-    print(b": expected ");
-    print_answer(wanted);
-    print(b", answered ");
-    print_answer(given);
-    print(b"\n");
 }
 
 fn print_counts(folder: &[u8], files: usize, differences: usize) {
@@ -161,20 +59,6 @@ fn print_counts(folder: &[u8], files: usize, differences: usize) {
     print(b" files, ");
     io::print_decimal(STDOUT_FILENO, differences as u64);
     print(b" differences\n");
-}
-
-// Whether a rule file is answered as its listing expects; if not, the difference is printed.
-fn compare(path: &[u8], file: &[u8], listing: &[u8]) -> bool
-    ensures { λ r. ⌜ r ≡ isExpected (now (file .entry)) (now (listing .entry)) ⌝ }
-{
-    let wanted = expected_of(first_line(listing));
-    let accepted = accept::accept(file);
-    let given = accepted.answer;
-    if is_same(given, wanted) {
-        return true;
-    }
-    print_difference(path, wanted, given);
-    false
 }
 
 fn wide_set(s: u16) -> usize
@@ -231,7 +115,7 @@ fn compare_states(path: &[u8], file: &[u8], expected: &[u8]) -> bool {
     let answer = accepted.answer;
     let known = accepted.known;
     let states = accepted.states;
-    if is_same(answer, accept::no_refusal()) {
+    if answer.number == 0 {
         let count = states.count;
         match count {
             Count::Known(m) => {
@@ -375,14 +259,13 @@ fn is_listing(
     )
 }
 
-// Whether a listing is that of a file; if not, that is printed. The buffers are for 16 states, 24 symbols of arity 2, 16 predicates of arity 3 and
-// 32 queries.
+// Whether a listing is that of a file; if not, that is printed. The buffers are for 16 states, 24 symbols of arity 2, 8,192 domain atoms and 32 queries.
 fn compare_listing(path: &[u8], file: &[u8], expected: &[u8]) -> bool
     ensures { λ r. ⌜ (r ≡ true → now (expected .entry) ≡ listing (now (file .entry))) ⌝ }
 {
     let mut states = [0u16; 16];
     let mut tables = [0u8; 6144];
-    let mut marks = [0u8; 65536];
+    let mut marks = [0u8; 8192];
     let mut verdicts = [0u8; 32];
     let mut out = io::buffer();
     let is = is_listing(
@@ -402,12 +285,84 @@ fn compare_listing(path: &[u8], file: &[u8], expected: &[u8]) -> bool
     false
 }
 
-// By one of the three ways.
+// Whether an answer is the one that three bytes say: its number, and its place in two, high byte first.
+fn is_answer(answer: Answer, expected: &[u8]) -> bool
+    requires { ⌜ 3 ≤ length (now expected) ⌝ }
+    ensures { λ r. ⌜ r ≡ (eqb (answer .number) (getD (now (expected .entry)) 0 0) && eqb (answer .place) (word (getD (now (expected .entry)) 1 0) (getD (now (expected .entry)) 2 0))) ⌝ }
+{
+    let place = wide(expected[1]) * 256 + wide(expected[2]);
+    (answer.number == wide(expected[0])) & (answer.place == place)
+}
+
+// Whether a sheet, which stands after three bytes that say the answer to it, is answered so; if not, that is printed.
+fn compare_check(path: &[u8], file: &[u8], expected: &[u8]) -> bool {
+    let mut tables = [0u8; 6144];
+    let mut marks = [0u8; 8192];
+    if 3 <= expected.len() {
+        let answer = certificate::check(file, &expected[3..], &mut tables, &mut marks);
+        if is_answer(answer, expected) {
+            return true;
+        }
+    }
+    print(path);
+    print(b": other answer to the sheet\n");
+    false
+}
+
+// Whether some bytes are the sheet that is written for a file, in the lent buffers.
+fn is_sheet(
+    file: &[u8],
+    expected: &[u8],
+    states: &mut [u16],
+    tables: &mut [u8],
+    marks: &mut [u8],
+    verdicts: &mut [u8],
+    sheet: &mut [u8],
+) -> bool
+    ensures { λ r. ⌜ (r ≡ true → IsSheet (now (file .entry)) (now (expected .entry))) ⌝ }
+{
+    let r = certificate::write(file, states, tables, marks, verdicts, sheet);
+    let answer = r.answer;
+    if answer.number != 0 {
+        return false;
+    }
+    let n = r.bytes;
+    names::same(&sheet[..n], expected)
+}
+
+// Whether some bytes are the sheet that is written for a file; if not, that is printed.
+fn compare_sheet(path: &[u8], file: &[u8], expected: &[u8]) -> bool
+    ensures { λ r. ⌜ (r ≡ true → IsSheet (now (file .entry)) (now (expected .entry))) ⌝ }
+{
+    let mut states = [0u16; 16];
+    let mut tables = [0u8; 6144];
+    let mut marks = [0u8; 8192];
+    let mut verdicts = [0u8; 32];
+    let mut sheet = [0u8; 8192];
+    let is = is_sheet(
+        file,
+        expected,
+        &mut states,
+        &mut tables,
+        &mut marks,
+        &mut verdicts,
+        &mut sheet,
+    );
+    if is {
+        return true;
+    }
+    print(path);
+    print(b": other sheet\n");
+    false
+}
+
+// By one of the ways.
 fn compare_by(way: Way, path: &[u8], file: &[u8], beside: &[u8]) -> bool {
     match way {
-        Way::Answer => compare(path, file, beside),
         Way::States => compare_states(path, file, beside),
         Way::Listing => compare_listing(path, file, beside),
+        Way::Check => compare_check(path, file, beside),
+        Way::Sheet => compare_sheet(path, file, beside),
     }
 }
 
@@ -427,10 +382,10 @@ fn play_file(rules: &[u8], beside: &[u8], way: Way) -> Outcome {
         print(b": missing\n");
         return Outcome::Different;
     }
-    let mut text = io::large_buffer();
+    let mut text = [0u8; 8192];
     let m = io::read_full(other, &mut text);
     libc::close(other);
-    if m == 65536 {
+    if m == 8192 {
         print(beside);
         print(b": too long\n");
         return Outcome::Different;
@@ -483,11 +438,17 @@ fn main() {
     play(b"base", &mut base_rules, &mut base_listing, Way::Listing);
     let mut more_rules = *b"more/000.rules";
     let mut more_listing = *b"more/000.listing";
-    play(b"more", &mut more_rules, &mut more_listing, Way::Answer);
+    play(b"more", &mut more_rules, &mut more_listing, Way::Listing);
     let mut sets_rules = *b"sets/000.rules";
     let mut sets_states = *b"sets/000.states";
     play(b"sets", &mut sets_rules, &mut sets_states, Way::States);
     let mut full_rules = *b"full/000.rules";
     let mut full_listing = *b"full/000.listing";
     play(b"full", &mut full_rules, &mut full_listing, Way::Listing);
+    let mut pass_rules = *b"pass/000.rules";
+    let mut pass_check = *b"pass/000.check";
+    play(b"pass", &mut pass_rules, &mut pass_check, Way::Check);
+    let mut made_rules = *b"made/000.rules";
+    let mut made_sheet = *b"made/000.sheet";
+    play(b"made", &mut made_rules, &mut made_sheet, Way::Sheet);
 }

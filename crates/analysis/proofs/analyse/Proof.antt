@@ -13,7 +13,6 @@ use Rattle.accept.proofs.Answering.{accepted-read, accepted-few, read-states}
 use Rattle.analysis.specs.declared.Analysis.{Analysis}
 use Rattle.analysis.specs.Given.{given}
 use Rattle.analysis.proofs.Ends.{file-refused, sets-fit}
-use borrow.Author.Needs.{needs}
 use Rattle.analysis.proofs.analyse.Statement.{statement}
 use Rattle.analysis.proofs.analyse.Tie as tie
 
@@ -44,11 +43,11 @@ enum-known-count c = search needs
 array-share-prefix-sets : tie.Need-array-share-prefix-sets
 array-share-prefix-sets c = sets-fit (statesOf (c .before .before .before .before .before .before .before .before .before .before .before .before .before .before .before .args .file .now)) (states-are (c .before .before .before .before .before .before)) (c .before .before .count .given .1)
 
-slice-aggregate-proceed : tie.Need-slice-aggregate-proceed
-slice-aggregate-proceed c = sym (length-take-le (c .before .before .before .count .given .0 .0) (c .before .before .before .before .before .before .before .before .before .before .accept .result .states .sets) (sets-fit (statesOf (c .before .before .before .before .before .before .before .before .before .before .before .before .before .before .before .before .args .file .now)) (states-are (c .before .before .before .before .before .before .before)) (c .before .before .before .count .given .1)))
+slice-aggregate-analyse-accepted : tie.Need-slice-aggregate-analyse-accepted
+slice-aggregate-analyse-accepted c = sym (length-take-le (c .before .before .before .count .given .0 .0) (c .before .before .before .before .before .before .before .before .before .before .accept .result .states .sets) (sets-fit (statesOf (c .before .before .before .before .before .before .before .before .before .before .before .before .before .before .before .before .args .file .now)) (states-are (c .before .before .before .before .before .before .before)) (c .before .before .before .count .given .1)))
 
-proceed-requires : tie.Need-proceed-requires
-proceed-requires c κs = (is-accepted (c .before .before .before .before .before .before .before .before .before .before .before), c .before .before .before .before .before .before .before .before .before .before .before .before .before .before .accept .ensures .1, known-sets (statesOf (c .before .before .before .before .before .before .before .before .before .before .before .before .before .before .before .before .before .before .before .before .args .file .now)) (states-are (c .before .before .before .before .before .before .before .before .before .before .before)) (c .before .before .before .before .before .before .before .count .given .1))
+analyse-accepted-requires : tie.Need-analyse-accepted-requires
+analyse-accepted-requires c κs = (is-accepted (c .before .before .before .before .before .before .before .before .before .before .before), c .before .before .before .before .before .before .before .before .before .before .before .before .before .before .accept .ensures .1, known-sets (statesOf (c .before .before .before .before .before .before .before .before .before .before .before .before .before .before .before .before .before .before .before .before .args .file .now)) (states-are (c .before .before .before .before .before .before .before .before .before .before .before)) (c .before .before .before .before .before .before .before .count .given .1))
 
 enum-told : tie.Need-enum-told
 enum-told c = search needs
@@ -69,7 +68,7 @@ same-length-4 : tie.Need-same-length-4
 same-length-4 c = search needs
 
 returns-2 : tie.Need-returns-2
-returns-2 c = c .before .before .before .before .before .before .before .before .proceed .ensures
+returns-2 c = c .before .before .before .before .before .before .before .before .analyse-accepted .ensures
 
 returns-3 : tie.Need-returns-3
 returns-3 c =
@@ -86,8 +85,8 @@ analyse-spec =
     returns
     enum-known-count
     array-share-prefix-sets
-    slice-aggregate-proceed
-    proceed-requires
+    slice-aggregate-analyse-accepted
+    analyse-accepted-requires
     enum-told
     refused-requires-2
     same-length

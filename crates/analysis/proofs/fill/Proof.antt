@@ -9,10 +9,9 @@ use lib.ListN.{length}
 use Rattle.meaning.specs.Lists.{All}
 use Rattle.meaning.specs.Calls.{tablesOf, modelOf, written}
 use Rattle.accept.proofs.Answering.{accepted-few}
-use Rattle.analysis.specs.Given.{Handed}
-use Rattle.analysis.proofs.Fronts.{written-again}
-use Rattle.analysis.proofs.Handed.{few-symbols, narrow-symbols, few-predicates, fit-predicates}
-use borrow.Author.Needs.{needs}
+use Rattle.results.specs.Handed.{Handed}
+use Rattle.results.proofs.Fronts.{written-again}
+use Rattle.results.proofs.Handed.{few-symbols, narrow-symbols, few-predicates, fit-predicates}
 use Rattle.analysis.proofs.fill.Statement.{statement}
 use Rattle.analysis.proofs.fill.Tie as tie
 

@@ -2,8 +2,10 @@
 use mathlib.Core.Path.{ap}
 use native.Mathlib.Omega.{arith}
 use lib.ListN.{length}
-use Rattle.lines.proofs.Numbers.{pieces-are, verdicts-length}
-use Rattle.lines.proofs.Found.{states-few, marks-few}
+use Rattle.meaning.proofs.Calls.{verdicts-length}
+use Rattle.lines.proofs.Numbers.{pieces-are}
+use Rattle.accept.proofs.Answering.{accepted-few}
+use Rattle.lines.proofs.Found.{marks-few}
 use borrow.Author.Needs.{needs}
 use Rattle.lines.proofs.piece_count.Statement.{statement}
 use Rattle.lines.proofs.piece_count.Tie as tie
@@ -15,13 +17,13 @@ add-result-2 : tie.Need-add-result-2
 add-result-2 c =
     let r = c .pre in
     let file = c .args .file .now in
-    omega (arith, ap length (r .states-are), states-few file (r .answer), ap length (r .marks-are), marks-few file (r .answer))
+    omega (arith, ap length (r .states-are), accepted-few file (r .answer), ap length (r .marks-are), marks-few file (r .answer))
 
 add-result-3 : tie.Need-add-result-3
 add-result-3 c =
     let r = c .pre in
     let file = c .args .file .now in
-    omega (arith, ap length (r .states-are), states-few file (r .answer), ap length (r .marks-are), marks-few file (r .answer))
+    omega (arith, ap length (r .states-are), accepted-few file (r .answer), ap length (r .marks-are), marks-few file (r .answer))
 
 returns : tie.Need-returns
 returns c =

@@ -4,8 +4,9 @@ use mathlib.Core.Path.{subst}
 use mathlib.Core.List.{List}
 use native.Mathlib.Omega.{arith}
 use lib.ListN.{length, take, drop, length-take}
-use Rattle.lines.specs.Lines.{namedText, Put}
-use Rattle.lines.proofs.Found.{predicates-few}
+use Rattle.text.specs.Pasted.{Put}
+use Rattle.lines.specs.Lines.{namedText}
+use Rattle.accept.proofs.Limits.{predicates-few}
 use Rattle.lines.proofs.AtomAt.{row-asked, content-some, row-fits, line-is, line-short}
 use borrow.Author.Needs.{needs}
 use Rattle.lines.proofs.put_cell.Statement.{statement}

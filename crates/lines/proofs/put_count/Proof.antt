@@ -1,8 +1,8 @@
 -- `lines::put_count` meets its contract. Assumes nothing.
 use mathlib.Core.List.{[], _∷_}
 use native.Mathlib.Omega.{arith}
+use Rattle.text.proofs.Putting.{put-first, put-room, put-then}
 use Rattle.lines.specs.Lines.{lineEnd, numberAfter, countLine}
-use Rattle.lines.proofs.Putting.{put-first, put-room, put-then}
 use borrow.Author.Needs.{needs}
 use Rattle.lines.proofs.put_count.Statement.{statement}
 use Rattle.lines.proofs.put_count.Tie as tie

@@ -1,6 +1,6 @@
 -- `lines::put_counts` meets its contract. Assumes nothing.
+use Rattle.text.proofs.Putting.{put-first, put-room, put-then}
 use Rattle.lines.specs.Lines.{numberAfter, countLine, countsLine}
-use Rattle.lines.proofs.Putting.{put-first, put-room, put-then}
 use borrow.Author.Needs.{needs}
 use Rattle.lines.proofs.put_counts.Statement.{statement}
 use Rattle.lines.proofs.put_counts.Tie as tie

@@ -5,7 +5,8 @@ use mathlib.Core.List.{List}
 use native.Mathlib.Omega.{arith}
 use lib.Dec.{lit≤}
 use lib.ListN.{length}
-use Rattle.lines.specs.Lines.{modelWord, roundsWord, countsLine, Put}
+use Rattle.text.specs.Pasted.{Put}
+use Rattle.lines.specs.Lines.{modelWord, roundsWord, countsLine}
 use Rattle.lines.proofs.Sizes.{counts-short}
 use Rattle.lines.proofs.Putting.{put-short}
 use Rattle.lines.proofs.AtHand.{model-first, model-later}

@@ -1,7 +1,7 @@
 -- `lines::put_number` meets its contract. Assumes nothing.
 use Rattle.text.specs.Decimal.{decimal}
+use Rattle.text.proofs.Putting.{put-first, put-room, put-then}
 use Rattle.lines.specs.Lines.{numberAfter}
-use Rattle.lines.proofs.Putting.{put-first, put-room, put-then}
 use borrow.Author.Needs.{needs}
 use Rattle.lines.proofs.put_number.Statement.{statement}
 use Rattle.lines.proofs.put_number.Tie as tie

@@ -4,8 +4,8 @@ use mathlib.Core.Path.{ap, subst}
 use mathlib.Core.List.{List}
 use native.Mathlib.Omega.{arith}
 use lib.ListN.{length}
-use Rattle.lines.specs.Lines.{Put}
-use Rattle.lines.proofs.Found.{states-few}
+use Rattle.text.specs.Pasted.{Put}
+use Rattle.accept.proofs.Answering.{accepted-few}
 use Rattle.lines.proofs.AtHand.{piece-of-states, piece-of-model, piece-of-queries, query-inside}
 use borrow.Author.Needs.{needs}
 use Rattle.lines.proofs.put_piece.Statement.{statement}
@@ -15,7 +15,7 @@ put-states-requires : tie.Need-put-states-requires
 put-states-requires c κs =
     let x = c .before .before .before .before .before .before .before in
     let r = x .pre .0 .0 in
-    ((r .answer, x .pre .0 .1), (omega (arith, ap length (r .states-are), states-few (x .args .file .now) (r .answer)), omega arith, x .pre .1 .3))
+    ((r .answer, x .pre .0 .1), (omega (arith, ap length (r .states-are), accepted-few (x .args .file .now) (r .answer)), omega arith, x .pre .1 .3))
 
 same-length : tie.Need-same-length
 same-length c = search needs

@@ -8,10 +8,12 @@ use Rattle.meaning.specs.Lists.{All}
 use Rattle.meaning.specs.Cells.{start, cells}
 use Rattle.meaning.specs.Calls.{predicateArities}
 use Rattle.meaning.proofs.Lists.{All-map}
-use Rattle.lines.specs.Lines.{Put}
-use Rattle.lines.proofs.Putting.{put-none}
-use Rattle.lines.proofs.Numbers.{marks-length, line-marked, line-unmarked}
-use Rattle.lines.proofs.Found.{states-few, predicates-few, predicates-small, predicates-known, predicates-length, predicates-count}
+use Rattle.text.specs.Pasted.{Put}
+use Rattle.text.proofs.Putting.{put-none}
+use Rattle.meaning.proofs.Calls.{marks-length}
+use Rattle.lines.proofs.Numbers.{line-marked, line-unmarked}
+use Rattle.accept.proofs.Answering.{accepted-few}
+use Rattle.accept.proofs.Limits.{predicates-few, predicates-small, predicates-known, predicates-length, predicates-count}
 use borrow.Author.Needs.{needs}
 use Rattle.lines.proofs.put_place.Statement.{statement}
 use Rattle.lines.proofs.put_place.Tie as tie
@@ -64,7 +66,7 @@ place-of-requires c κs =
     let a = x .args in
     let file = a .file .now in
     subst (λ (l : List ℕ). (a .m ≤ 16) × All (λ n. n ≤ 4) l × (a .j < cells (a .m) l)) (sym (arities-are (c .before))) (
-      omega (arith, states-few file (x .pre .0 .0)),
+      omega (arith, accepted-few file (x .pre .0 .0)),
       All-map (predicateArities file) (λ n h. omega arith) (predicates-small file (x .pre .0 .0)),
       subst (λ (m : ℕ). a .j < cells m (predicateArities file)) (sym (x .pre .0 .2)) (omega (arith, marks-length file, ap length (x .pre .1 .0))),
     )

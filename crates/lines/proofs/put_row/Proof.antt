@@ -3,8 +3,8 @@ use Prim.Native.Nat.{_+_, _-_, _≤_}
 use mathlib.Core.List.{[], _∷_}
 use native.Mathlib.Omega.{arith}
 use lib.ListN.{length, drop}
+use Rattle.text.proofs.Putting.{Left, left-start, left-room, left-next, left-end}
 use Rattle.lines.specs.Lines.{space, numberAfter, rowText}
-use Rattle.lines.proofs.Putting.{Left, left-start, left-room, left-next, left-end}
 use Rattle.lines.proofs.Texts.{row-next, row-end}
 use borrow.Author.Needs.{needs}
 use Rattle.lines.proofs.put_row.Statement.{statement}

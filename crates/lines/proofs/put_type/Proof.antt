@@ -6,8 +6,9 @@ use mathlib.Core.List.{List, [], _∷_, _++_}
 use native.Mathlib.Omega.{arith}
 use lib.ListN.{length}
 use Rattle.meaning.specs.Types.{has}
-use Rattle.lines.specs.Lines.{space, Put}
-use Rattle.lines.proofs.Putting.{put-none, put-first, put-room, put-then}
+use Rattle.text.specs.Pasted.{Put}
+use Rattle.text.proofs.Putting.{put-none, put-first, put-room, put-then}
+use Rattle.lines.specs.Lines.{space}
 use Rattle.lines.proofs.Texts.{held-yes, held-no}
 use borrow.Author.Needs.{needs}
 use Rattle.lines.proofs.put_type.Statement.{statement}

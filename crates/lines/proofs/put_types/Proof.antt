@@ -6,9 +6,9 @@ use native.Mathlib.Omega.{arith}
 use lib.ListN.{length, getD, drop}
 use Rattle.meaning.specs.Files.{rulesOf}
 use Rattle.fields.specs.Found.{nthIn}
+use Rattle.text.proofs.Putting.{Left, left-start, left-room, left-next, left-end}
 use Rattle.lines.specs.Lines.{heldName, heldNames}
 use Rattle.lines.proofs.Texts.{names-next, names-end}
-use Rattle.lines.proofs.Putting.{Left, left-start, left-room, left-next, left-end}
 use Rattle.lines.proofs.Found.{types-known, types-few, type-name}
 use borrow.Author.Needs.{needs}
 use Rattle.lines.proofs.put_types.Statement.{statement}

@@ -2,7 +2,8 @@
 use mathlib.Core.Path.{sym}
 use lib.Seq.{length-take-le}
 use Rattle.meaning.specs.Calls.{statesOf, modelOf, verdictsOf}
-use Rattle.analysis.proofs.Shown.{holds-room, holds-first, shown-few, preds-fit, preds-few, preds-narrow, marks-size, verdicts-size}
+use Rattle.results.proofs.Fronts.{holds-room, holds-first}
+use Rattle.analysis.proofs.Shown.{shown-few, preds-fit, preds-few, preds-narrow, marks-size, verdicts-size}
 use borrow.Author.Needs.{needs}
 use Rattle.listing.proofs.print_results.Statement.{statement}
 use Rattle.listing.proofs.print_results.Tie as tie

@@ -1,12 +1,11 @@
 -- `vectors::compare_states` is safe: tables are written only for a file that is accepted. Assumes nothing.
 use mathlib.Core.Path.{sym, ap, _∙_}
 use native.Mathlib.Omega.{arith}
+use Rattle.meaning.specs.Refusals.{Answer}
 use Rattle.meaning.specs.Calls.{statesOf}
+use Rattle.meaning.proofs.Answers.{zero-accepted}
 use Rattle.states.proofs.Packed.{known-is, known-sets}
-use Rattle.accept.specs.Accepted.{answered}
 use Rattle.accept.proofs.Answering.{read-states, accepted-read}
-use Rattle.vectors.specs.Expected.{sameAnswer}
-use Rattle.vectors.proofs.Lines.{same-accepted}
 use borrow.Author.Needs.{needs}
 use Rattle.vectors.proofs.compare_states.Statement.{statement}
 use Rattle.vectors.proofs.compare_states.Tie as tie
@@ -14,21 +13,14 @@ use Rattle.vectors.proofs.compare_states.Tie as tie
 accept-requires : tie.Need-accept-requires
 accept-requires c κs = search needs
 
-no-refusal-requires : tie.Need-no-refusal-requires
-no-refusal-requires c κs = search needs
-
-is-same-requires : tie.Need-is-same-requires
-is-same-requires c κs = search needs
-
 enum-known-count : tie.Need-enum-known-count
 enum-known-count c = search needs
 
 are-tables-requires : tie.Need-are-tables-requires
 are-tables-requires c κs =
-    let file = c .before .before .before .before .before .before .before .before .before .before .before .before .before .before .args .file .now in
-    let done = c .before .before .before .before .before .before .before .before .before .before .accept in
-    let same = sym (c .before .before .before .before .before .is-same .ensures ∙ ap (sameAnswer (answered (done .result .answer))) (c .before .before .before .before .before .before .no-refusal .ensures)) ∙ c .before .before .before .before .if1 .taken in
-    let e = sym (done .ensures .0) ∙ same-accepted (done .result .answer .number) (done .result .answer .place) same in
+    let file = c .before .before .before .before .before .before .before .before .before .before .before .before .before .args .file .now in
+    let done = c .before .before .before .before .before .before .before .before .before .accept in
+    let e = zero-accepted file (sym (ap (λ (a : Answer). a .number) (done .ensures .0)) ∙ omega arith) in
     let states = done .ensures .2 ∙ sym (read-states file (accepted-read file e)) in
     let held = known-is (statesOf file) states (c .before .before .count .given .1) in
     (e, done .ensures .1, known-sets (statesOf file) states (c .before .before .count .given .1), omega (arith, held))
@@ -56,8 +48,6 @@ compare-states-spec =
     tie.close
     (tie.spec
     accept-requires
-    no-refusal-requires
-    is-same-requires
     enum-known-count
     are-tables-requires
     returns

@@ -1,0 +1,82 @@
+-- What is known of an accepted file: its limits, and the arities of its predicates. Assumes nothing.
+use Prim.Native.Nat.{ℕ, _≤_, _<_}
+use mathlib.Core.Path.{_≡_, sym, ap, subst, _∙_}
+use mathlib.Core.List.{List, []}
+use native.Mathlib.Omega.{arith}
+use lib.Dec.{lit<}
+use lib.ListN.{length, getD}
+use Rattle.meaning.specs.Lists.{All}
+use Rattle.meaning.specs.Limits.{predicate, mostOf, mostPredicateArity}
+use Rattle.meaning.specs.Fields.{fields}
+use Rattle.meaning.specs.Refusals.{accepted, contents, aritiesIn, firstByte, isRefused, firstRefused}
+use Rattle.meaning.specs.Files.{rulesIn, rulesOf, readAnswer, fileAnswer}
+use Rattle.meaning.specs.Calls.{symbolArities, predicateArities, statesOf}
+use Rattle.meaning.proofs.Lists.{All-map, mem-place}
+use Rattle.meaning.proofs.Contents.{isNamed-exact}
+use Rattle.meaning.proofs.Fields.{firstField-none}
+use Rattle.meaning.proofs.ByKind.{WellFields, fine-well}
+use Rattle.meaning.proofs.Acceptance.{All-over, arities-named}
+use Rattle.meaning.proofs.Answers.{none-refused, read-accepted, symbolsOf, accepted-exact}
+use Rattle.meaning.proofs.States.{cell-range}
+use Rattle.refusals.specs.declared.Known.{Known}
+use Rattle.refusals.specs.Known.{Knows, fieldsRead}
+use Rattle.refusals.specs.Tests.{knownPredicates}
+use Rattle.refusals.proofs.Knowing.{length-arities, count-of}
+use Rattle.rules.proofs.Keeping.{length-padded}
+use Rattle.rules.proofs.Whole.{knows-all, reads}
+use Rattle.accept.proofs.Answering.{accepted-read}
+
+-- an accepted file keeps the limits
+module _ (file : List ℕ) (e : fileAnswer file ≡ accepted) where
+  whole : readAnswer file ≡ accepted
+  whole = accepted-read file e
+
+  pub fields-well : WellFields (fields file)
+  unfolding firstRefused
+  fields-well = fine-well (fields file) (firstField-none isRefused (fields file) .0 (none-refused (fields file) .1 (read-accepted file .0 whole .0 .fine)))
+
+  -- the predicates: at most 16, of arity at most 3
+  abbrev preds : List (List ℕ)
+  preds = contents predicate (fields file)
+
+  pub arities-are : predicateArities file ≡ aritiesIn predicate (fields file)
+  unfolding predicateArities rulesOf rulesIn
+  arities-are = arities-named preds
+
+  pub arities-length : length (predicateArities file) ≡ length preds
+  arities-length = ap length arities-are ∙ length-arities predicate (fields file)
+
+  pub predicates-few : length (predicateArities file) ≤ 16
+  predicates-few = omega (arith, arities-length, fields-well .counts predicate)
+
+  pub predicates-small : All (λ n. n ≤ 3) (predicateArities file)
+  predicates-small =
+      subst (All (λ n. n ≤ 3)) (sym arities-are)
+      (All-over (λ n. n ≤ 3) firstByte preds (All-map preds (λ c t. isNamed-exact mostPredicateArity c .0 t .1) (fields-well .laid predicate)))
+
+  -- at least one state, that of a constant
+  pub states-some : 1 ≤ length (statesOf file)
+  unfolding statesOf symbolArities
+  states-some =
+      let w = accepted-exact file .0 e in
+      let c = mem-place (symbolsOf file) 0 0 (w .1) in
+      let below = cell-range (symbolsOf file) (length (rulesOf file .types)) (rulesOf file .productions) (w .2) (c .0) [] (c .1, c .2) tt in
+      omega (arith, below)
+
+  -- what is known of the predicates: their arities, in an array of 16
+  module _ (known : Known) (knows : Knows known (fieldsRead file)) where
+    pub all-known : Knows known (fields file)
+    all-known = knows-all file known whole knows
+
+    pub predicates-known : knownPredicates known ≡ predicateArities file
+    unfolding predicateArities
+    predicates-known = reads file known whole knows .predicates
+
+    few : length (aritiesIn predicate (fields file)) ≤ mostOf predicate
+    few = omega (arith, length-arities predicate (fields file), fields-well .counts predicate)
+
+    pub predicates-length : length (known .predicates) ≡ 16
+    predicates-length = ap length (all-known .predicates) ∙ length-padded (mostOf predicate) (aritiesIn predicate (fields file)) few
+
+    pub predicates-count : getD (known .counts) 4 0 ≡ length (predicateArities file)
+    predicates-count = count-of known (fields file) all-known 4 (lit< tt) ∙ sym arities-length

@@ -1,0 +1,4 @@
+pub mod Ends
+pub mod Ready
+pub mod Sheets
+pub mod Theorems

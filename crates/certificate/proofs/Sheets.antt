@@ -1,0 +1,88 @@
+-- The bytes of a sheet: how many they are, and that they are put if there is room for them. Assumes nothing.
+use Prim.Native.Nat.{ℕ, _+_, _*_, _≤_, _<_}
+use mathlib.Core.Path.{_≡_, sym, ap, _∙_}
+use mathlib.Core.Bool.{not}
+use mathlib.Core.List.{List, [], _∷_, _++_}
+use native.Mathlib.Nat.{zero-add}
+use native.Mathlib.Omega.{arith}
+use lib.Dec.{T, leb→le, le→leb}
+use lib.ListN.{length, getD, drop, length-append}
+use lib.Seq.{take-length}
+use Rattle.meaning.specs.Lists.{All}
+use Rattle.meaning.specs.Limits.{atomTag}
+use Rattle.meaning.specs.Fields.{encodeField}
+use Rattle.meaning.specs.Cells.{cells}
+use Rattle.meaning.specs.Certificates.{encodeSheet, markedAtoms, IsSheetAtom}
+use Rattle.meaning.specs.Calls.{written, holds}
+use Rattle.meaning.proofs.Lists.{All-map, All-getD, cond-yes, cond-no, not-intro}
+use Rattle.meaning.proofs.MarkedAtoms.{nonzero, marked-atoms-form, marked-count}
+use Rattle.cells.proofs.Segments.{start-all, start-most}
+use Rattle.segments.proofs.Counts.{counted-le}
+use Rattle.text.specs.Pasted.{pasted, Put}
+use Rattle.text.proofs.Putting.{put-then}
+use Rattle.writer.specs.Parts.{stateFields, atomFields}
+use Rattle.writer.proofs.Fields.{states-length}
+use Rattle.certificate.specs.Given.{sheetOf, ifRoom}
+
+-- an atom's field is of at most 7 bytes
+fields-most : (m : ℕ) (preds : List ℕ) (atoms : List (List ℕ)) → All (λ n. n ≤ 3) preds → All (IsSheetAtom m preds) atoms → length (atomFields atoms) ≤ length atoms * 7
+fields-most m preds [] small h = omega arith
+fields-most m preds ([] ∷ atoms) small h = absurd (h .0)
+fields-most m preds ((p ∷ row) ∷ atoms) small h =
+    let narrow : getD preds p 0 ≤ 3 = All-getD (λ d. d ≤ 3) preds 0 small p (h .0 .0 .0) in
+    omega (arith, length-append (encodeField atomTag (p ∷ row)) (atomFields atoms), narrow, h .0 .0 .1, fields-most m preds atoms small (h .1))
+
+-- the fields of the marked atoms together
+pub atoms-most : (m : ℕ) (preds marks : List ℕ)
+    → m ≤ 16
+    → length preds ≤ 16
+    → All (λ n. n ≤ 3) preds
+    → length marks ≡ cells m preds
+    → length (atomFields (markedAtoms m preds marks)) ≤ 7340032
+atoms-most m preds marks states few small size =
+    let count = counted-le marks (length marks) (omega arith) (marked-count m preds marks size ∙ ap nonzero (sym (take-length marks))) in
+    let most = start-most m preds (length preds) states (All-map preds (λ d h. omega arith) small) in
+    omega (arith, fields-most m preds (markedAtoms m preds marks) small (marked-atoms-form m preds marks), count, size, start-all m preds, most, few)
+
+-- the states' fields and then the atoms' are all of a sheet's bytes
+pub parts-length : (states preds marks : List ℕ) {n : ℕ}
+    → n ≡ length (atomFields (markedAtoms (length states) preds marks))
+    → length states * 5 + n ≡ length (sheetOf states preds marks)
+unfolding encodeSheet
+parts-length states preds marks e =
+    let atoms = markedAtoms (length states) preds marks in
+    omega (arith, e, states-length states, length-append (stateFields states) (atomFields atoms))
+
+-- whether there is room for needed bytes: they are written, or the buffer is kept
+module _ (needed before : List ℕ) {n : ℕ} (e : n ≡ length needed) where
+  pub has-room : n ≤ length before → T (holds before needed)
+  has-room long = le→leb (length needed) (length before) (omega arith)
+
+  pub lacks-room : length before < n → T (not (holds before needed))
+  lacks-room short = not-intro (holds before needed) (λ t. let long = leb→le (length needed) (length before) t in absurd (omega arith))
+
+  pub room-written : n ≤ length before → ifRoom needed before ≡ written needed before
+  room-written long = cond-yes (holds before needed) (written needed before) before (has-room long)
+
+  pub room-kept : length before < n → ifRoom needed before ≡ before
+  room-kept short = cond-no (holds before needed) (written needed before) before (lacks-room short)
+
+-- bytes pasted to the front
+pasted-front : (out bytes : List ℕ) → pasted out 0 bytes ≡ written bytes out
+unfolding pasted
+pasted-front out bytes = ap (λ (k : ℕ). bytes ++ drop k out) (zero-add (length bytes))
+
+-- the states' fields put to the front and the atoms' after them
+pub sheet-put : (states preds marks sheet : List ℕ) {n at next : ℕ} {mid after : List ℕ}
+    → length states * 5 + n ≤ length sheet
+    → n ≡ length (atomFields (markedAtoms (length states) preds marks))
+    → (mid ≡ pasted sheet 0 (stateFields states)) × (at ≡ length states * 5)
+    → Put mid at (atomFields (markedAtoms (length states) preds marks)) after next
+    → after ≡ ifRoom (sheetOf states preds marks) sheet
+unfolding encodeSheet
+sheet-put states preds marks sheet {n} {at} long e first second =
+    let atoms = atomFields (markedAtoms (length states) preds marks) in
+    let all = parts-length states preds marks e in
+    put-then sheet 0 (stateFields states) atoms (omega (arith, all, long)) {next = at} (first .0, omega (arith, first .1, states-length states)) second .0
+    ∙ pasted-front sheet (sheetOf states preds marks)
+    ∙ sym (room-written (sheetOf states preds marks) sheet all long)

@@ -1,0 +1,183 @@
+-- `checking::check_accepted` meets its contract: the lengths are looked at before anything is written. Assumes nothing.
+use Prim.Native.Nat.{ℕ, _≤_}
+use mathlib.Core.Path.{_≡_, sym, ap, ap₂, subst, _∙_}
+use mathlib.Core.List.{List}
+use native.Mathlib.Nat.{le-trans}
+use native.Mathlib.Omega.{arith}
+use lib.Dec.{lit≤}
+use lib.ListN.{length, take}
+use lib.Seq.{length-take-le}
+use Rattle.meaning.specs.Lists.{All}
+use Rattle.meaning.specs.Cells.{cells}
+use Rattle.meaning.specs.Calls.{lentEnough}
+use Rattle.meaning.proofs.Lists.{T-of}
+use Rattle.accept.proofs.Answering.{accepted-read, accepted-few}
+use Rattle.accept.proofs.Ready.{symbols-fit, tables-length}
+use Rattle.results.proofs.Handed.{few-symbols, narrow-symbols, few-predicates, fit-predicates, model-size, predicates-fit}
+use Rattle.checking.proofs.Ends.{too-short, done, enough-is, room}
+use borrow.Author.Needs.{needs}
+use Rattle.checking.proofs.check_accepted.Statement.{statement}
+use Rattle.checking.proofs.check_accepted.Tie as tie
+
+array-read-wide : tie.Need-array-read-wide
+array-read-wide c = search needs
+
+wide-requires : tie.Need-wide-requires
+wide-requires c κs = search needs
+
+array-read-wide-2 : tie.Need-array-read-wide-2
+array-read-wide-2 c = search needs
+
+wide-requires-2 : tie.Need-wide-requires-2
+wide-requires-2 c κs = search needs
+
+array-share-prefix-symbols : tie.Need-array-share-prefix-symbols
+array-share-prefix-symbols c =
+    let x = c .before .before .before .before .before .before .before .before .before .before in
+    let file = x .args .file .now in
+    let known = x .args .known in
+    let e = x .pre .0 in
+    omega (arith, c .before .wide .ensures, symbols-fit file known (accepted-read file e) (x .pre .1))
+
+slice-aggregate-long-enough : tie.Need-slice-aggregate-long-enough
+slice-aggregate-long-enough c =
+    let x = c .before .before .before .before .before .before .before .before .before .before .before in
+    let file = x .args .file .now in
+    let known = x .args .known in
+    let e = x .pre .0 in
+    sym (length-take-le (c .before .before .wide .result) (known .symbols) (omega (arith, c .before .before .wide .ensures, symbols-fit file known (accepted-read file e) (x .pre .1))))
+
+array-share-prefix-predicates : tie.Need-array-share-prefix-predicates
+array-share-prefix-predicates c =
+    let x = c .before .before .before .before .before .before .before .before .before .before .before in
+    let file = x .args .file .now in
+    let known = x .args .known in
+    let e = x .pre .0 in
+    omega (arith, c .before .wide2 .ensures, predicates-fit file known e (x .pre .1))
+
+slice-aggregate-long-enough-2 : tie.Need-slice-aggregate-long-enough-2
+slice-aggregate-long-enough-2 c =
+    let x = c .before .before .before .before .before .before .before .before .before .before .before .before in
+    let file = x .args .file .now in
+    let known = x .args .known in
+    let e = x .pre .0 in
+    sym (length-take-le (c .before .before .wide2 .result) (known .predicates) (omega (arith, c .before .before .wide2 .ensures, predicates-fit file known e (x .pre .1))))
+
+long-enough-requires : tie.Need-long-enough-requires
+long-enough-requires c κs =
+    let x = c .before .before .before .before .before .before .before .before .before .before .before .before in
+    let file = x .args .file .now in
+    let known = x .args .known in
+    let e = x .pre .0 in
+    let knows = x .pre .1 in
+    let symbols = ap (λ (n : ℕ). take n (known .symbols)) (c .before .before .before .wide .ensures) in
+    let preds = ap (λ (n : ℕ). take n (known .predicates)) (c .before .before .wide2 .ensures) in (
+      subst (λ (l : List ℕ). length l ≤ 16) (sym (x .pre .2)) (accepted-few file e),
+      subst (λ (l : List ℕ). length l ≤ 32) (sym symbols) (le-trans (few-symbols file known e knows) (lit≤ tt)),
+      subst (All (λ n. n ≤ 4)) (sym symbols) (narrow-symbols file known e knows),
+      subst (λ (l : List ℕ). length l ≤ 32) (sym preds) (le-trans (few-predicates file known e knows) (lit≤ tt)),
+      subst (All (λ n. n ≤ 4)) (sym preds) (fit-predicates file known e knows),
+    )
+
+-- the test of the lengths is meaning's
+enough : (c : tie.After-long-enough) → c .long-enough .result ≡ lentEnough (c .before .before .before .before .before .before .before .before .before .before .before .before .before .args .file .now) (record { tables = c .before .before .before .before .before .before .before .before .before .before .before .before .before .args .tables .now; marks = c .before .before .before .before .before .before .before .before .before .before .before .before .before .args .marks .now })
+enough c =
+    let x = c .before .before .before .before .before .before .before .before .before .before .before .before .before in
+    let file = x .args .file .now in
+    let known = x .args .known in
+    let e = x .pre .0 in
+    let knows = x .pre .1 in
+    let found = x .pre .2 in
+    let symbols = ap (λ (n : ℕ). take n (known .symbols)) (c .before .before .before .before .wide .ensures) in
+    let preds = ap (λ (n : ℕ). take n (known .predicates)) (c .before .before .before .wide2 .ensures) in
+    c .long-enough .ensures
+    ∙ enough-is file (x .args .sheet .now) (record { tables = x .args .tables .now; marks = x .args .marks .now }) (length (x .args .found .now)) (take (c .before .before .before .before .wide .result) (known .symbols)) (take (c .before .before .before .wide2 .result) (known .predicates))
+    (ap₂ (λ (l ss : List ℕ). cells (length l) ss) found symbols ∙ sym (tables-length file known (accepted-read file e) knows))
+    (ap₂ (λ (l ps : List ℕ). cells (length l) ps) found preds ∙ model-size file known e knows)
+
+array-share-prefix-symbols-2 : tie.Need-array-share-prefix-symbols-2
+array-share-prefix-symbols-2 c =
+    let x = c .before .before .before .before .before .before .before .before .before .before .before .before .before .before in
+    let file = x .args .file .now in
+    let known = x .args .known in
+    let e = x .pre .0 in
+    omega (arith, c .before .before .before .before .before .wide .ensures, symbols-fit file known (accepted-read file e) (x .pre .1))
+
+slice-aggregate-check-sheet : tie.Need-slice-aggregate-check-sheet
+slice-aggregate-check-sheet c =
+    let x = c .before .before .before .before .before .before .before .before .before .before .before .before .before .before .before in
+    let file = x .args .file .now in
+    let known = x .args .known in
+    let e = x .pre .0 in
+    sym (length-take-le (c .before .before .before .before .before .before .wide .result) (known .symbols) (omega (arith, c .before .before .before .before .before .before .wide .ensures, symbols-fit file known (accepted-read file e) (x .pre .1))))
+
+array-share-prefix-predicates-2 : tie.Need-array-share-prefix-predicates-2
+array-share-prefix-predicates-2 c =
+    let x = c .before .before .before .before .before .before .before .before .before .before .before .before .before .before .before in
+    let file = x .args .file .now in
+    let known = x .args .known in
+    let e = x .pre .0 in
+    omega (arith, c .before .before .before .before .before .wide2 .ensures, predicates-fit file known e (x .pre .1))
+
+slice-aggregate-check-sheet-2 : tie.Need-slice-aggregate-check-sheet-2
+slice-aggregate-check-sheet-2 c =
+    let x = c .before .before .before .before .before .before .before .before .before .before .before .before .before .before .before .before in
+    let file = x .args .file .now in
+    let known = x .args .known in
+    let e = x .pre .0 in
+    sym (length-take-le (c .before .before .before .before .before .before .wide2 .result) (known .predicates) (omega (arith, c .before .before .before .before .before .before .wide2 .ensures, predicates-fit file known e (x .pre .1))))
+
+check-sheet-requires : tie.Need-check-sheet-requires
+check-sheet-requires c κs =
+    let x = c .before .before .before .before .before .before .before .before .before .before .before .before .before .before .before .before .before .before in
+    let file = x .args .file .now in
+    let known = x .args .known in
+    let e = x .pre .0 in
+    let long = sym (enough (c .before .before .before .before .before)) ∙ c .before .before .before .before .if1 .taken in (
+      (e, x .pre .1, x .pre .2, ap (λ (n : ℕ). take n (known .symbols)) (c .before .before .before .before .before .before .before .before .before .wide .ensures), ap (λ (n : ℕ). take n (known .predicates)) (c .before .before .before .before .before .before .before .before .wide2 .ensures)),
+      room file (x .args .sheet .now) (record { tables = x .args .tables .now; marks = x .args .marks .now }) (T-of _ long),
+    )
+
+refusal-requires : tie.Need-refusal-requires
+refusal-requires c κs = search needs
+
+same-length : tie.Need-same-length
+same-length c = search needs
+
+same-length-2 : tie.Need-same-length-2
+same-length-2 c = search needs
+
+returns : tie.Need-returns
+returns c =
+    let x = c .before .before .before .before .before .before .before .before .before .before .before .before .before .before .before .before .before .before .before .before .before .before .before in
+    let ends = c .before .before .before .before .check-sheet .ensures in
+    done (x .args .file .now) (x .args .sheet .now) (record { tables = x .args .tables .now; marks = x .args .marks .now }) (x .pre .0) (sym (enough (c .before .before .before .before .before .before .before .before .before .before)) ∙ c .before .before .before .before .before .before .before .before .before .if1 .taken) (ends .0) (ends .1 .0) (ends .1 .1)
+
+returns-2 : tie.Need-returns-2
+returns-2 c =
+    let x = c .before .before .before .before .before .before .before .before .before .before .before .before .before .before .before in
+    too-short (x .args .file .now) (x .args .sheet .now) (record { tables = x .args .tables .now; marks = x .args .marks .now }) (x .pre .0) (c .refusal .ensures) (sym (enough (c .before .before)) ∙ c .before .if1 .left)
+
+pub check-accepted-spec : {M : Type 1} → statement M
+check-accepted-spec =
+    tie.close
+    (tie.spec
+    array-read-wide
+    wide-requires
+    array-read-wide-2
+    wide-requires-2
+    array-share-prefix-symbols
+    slice-aggregate-long-enough
+    array-share-prefix-predicates
+    slice-aggregate-long-enough-2
+    long-enough-requires
+    array-share-prefix-symbols-2
+    slice-aggregate-check-sheet
+    array-share-prefix-predicates-2
+    slice-aggregate-check-sheet-2
+    check-sheet-requires
+    refusal-requires
+    same-length
+    same-length-2
+    returns
+    returns-2)

@@ -1,0 +1,194 @@
+// A sheet checked for an accepted file: 9 if a buffer is too short, then 10 to 13, each at the lowest place that it fits.
+use accept::Answer;
+use faults::Fault;
+use refusals::Known;
+ghost use Prim.Native.Nat.{_≤_};
+ghost use mathlib.Core.Path.{_≡_};
+ghost use mathlib.Core.Bool.{_&&_};
+ghost use lib.Dec.{leb};
+ghost use lib.ListN.{length, replicate};
+ghost use Rattle.meaning.specs.Lists.{All};
+ghost use Rattle.meaning.specs.Cells.{cells};
+ghost use Rattle.meaning.specs.Refusals.{accepted};
+ghost use Rattle.meaning.specs.Certificates.{sheetAnswer};
+ghost use Rattle.meaning.specs.Files.{rulesOf, fileAnswer};
+ghost use Rattle.meaning.specs.Calls.{predicateArities, statesOf, interpretationOf, tablesOf, modelOf, written, checked};
+ghost use Rattle.refusals.specs.Known.{Knows, fieldsRead};
+ghost use Rattle.refusals.specs.Tests.{knownSymbols, knownPredicates};
+ghost use Rattle.accept.specs.Accepted.{answered};
+ghost use Rattle.results.specs.Handed.{Handed};
+ghost use Rattle.checking.specs.Given.{gave};
+
+fn wide(b: u8) -> usize
+    ensures { λ r. ⌜ r ≡ b ⌝ }
+{
+    b as usize
+}
+
+// The answer to a sheet. The marks are zero at first, and of no use afterwards.
+fn judge(
+    sheet: &[u8],
+    file: &[u8],
+    known: Known,
+    found: &[u16],
+    symbols: &[u8],
+    preds: &[u8],
+    starts: &[u32],
+    segments: &[u32],
+    tables: &[u8],
+    marks: &mut [u8],
+) -> Answer
+    requires { ⌜ Handed (now file) known (now symbols) (now preds) (length (now found)) (now starts) (now segments) (now tables) × (now found ≡ statesOf (now file)) × (now marks ≡ replicate (cells (length (now found)) (now preds)) 0) ⌝ }
+    ensures answer { λ r. ⌜ answered r ≡ sheetAnswer (statesOf (now (file .entry))) (interpretationOf (now (file .entry))) (predicateArities (now (file .entry))) (rulesOf (now (file .entry)) .clauses) (now (sheet .entry)) ⌝ }
+    ensures size { λ _. ⌜ length (now (marks .exit)) ≡ length (now (marks .entry)) ⌝ }
+{
+    let m = found.len();
+    match sheets::first_misplaced(sheet, preds) {
+        Fault::At(k) => return accept::refusal(10, k),
+        Fault::Nowhere => {}
+    }
+    match sheets::first_difference(sheet, found) {
+        Fault::At(i) => return accept::refusal(11, i),
+        Fault::Nowhere => {}
+    }
+    match marking::mark_atoms(sheet, marks, preds, segments, m) {
+        Fault::At(k) => return accept::refusal(12, k),
+        Fault::Nowhere => {}
+    }
+    let counts = known.counts;
+    let begins = known.starts;
+    match closure::first_violation(
+        file,
+        begins[5],
+        counts[5],
+        symbols,
+        starts,
+        tables,
+        m,
+        preds,
+        segments,
+        marks,
+    ) {
+        Fault::At(c) => accept::refusal(13, c),
+        Fault::Nowhere => accept::no_refusal(),
+    }
+}
+
+// The same, with marks that are zero afterwards, whatever they were.
+fn judge_cleanly(
+    sheet: &[u8],
+    file: &[u8],
+    known: Known,
+    found: &[u16],
+    symbols: &[u8],
+    preds: &[u8],
+    starts: &[u32],
+    segments: &[u32],
+    tables: &[u8],
+    marks: &mut [u8],
+) -> Answer
+    requires { ⌜ Handed (now file) known (now symbols) (now preds) (length (now found)) (now starts) (now segments) (now tables) × (now found ≡ statesOf (now file)) × (length (now marks) ≡ cells (length (now found)) (now preds)) ⌝ }
+    ensures answer { λ r. ⌜ answered r ≡ sheetAnswer (statesOf (now (file .entry))) (interpretationOf (now (file .entry))) (predicateArities (now (file .entry))) (rulesOf (now (file .entry)) .clauses) (now (sheet .entry)) ⌝ }
+    ensures marks { λ _. ⌜ now (marks .exit) ≡ replicate (cells (length (now (found .entry))) (now (preds .entry))) 0 ⌝ }
+{
+    let m = found.len();
+    segments::zero_all(marks, preds, m);
+    let answer = judge(
+        sheet,
+        file,
+        known,
+        found,
+        symbols,
+        preds,
+        starts,
+        segments,
+        tables,
+        marks,
+    );
+    segments::zero_all(marks, preds, m);
+    answer
+}
+
+// The answer to a sheet; the tables are written, and the needed marks are zero.
+fn check_sheet(
+    sheet: &[u8],
+    file: &[u8],
+    known: Known,
+    found: &[u16],
+    symbols: &[u8],
+    preds: &[u8],
+    tables: &mut [u8],
+    marks: &mut [u8],
+) -> Answer
+    requires { ⌜ (fileAnswer (now file) ≡ accepted) × Knows known (fieldsRead (now file)) × (now found ≡ statesOf (now file)) × (now symbols ≡ knownSymbols known) × (now preds ≡ knownPredicates known) ⌝ }
+    requires { ⌜ (length (tablesOf (now file)) ≤ length (now tables)) × (length (modelOf (now file)) ≤ length (now marks)) ⌝ }
+    ensures answer { λ r. ⌜ answered r ≡ sheetAnswer (statesOf (now (file .entry))) (interpretationOf (now (file .entry))) (predicateArities (now (file .entry))) (rulesOf (now (file .entry)) .clauses) (now (sheet .entry)) ⌝ }
+    ensures tables { λ _. ⌜ now (tables .exit) ≡ written (tablesOf (now (file .entry))) (now (tables .entry)) ⌝ }
+    ensures marks { λ _. ⌜ now (marks .exit) ≡ written (replicate (length (modelOf (now (file .entry)))) 0) (now (marks .entry)) ⌝ }
+{
+    let m = found.len();
+    let starts = cells::starts_of(symbols, m);
+    let segments = cells::starts_of(preds, m);
+    let size = cells::cells_of(preds, m);
+    accept::write_tables(tables, file, known, found);
+    judge_cleanly(
+        sheet,
+        file,
+        known,
+        found,
+        symbols,
+        preds,
+        &starts,
+        &segments,
+        tables,
+        &mut marks[..size],
+    )
+}
+
+// Whether each buffer of a check is long enough, by their lengths.
+fn long_enough(symbols: &[u8], preds: &[u8], m: usize, tables: usize, marks: usize) -> bool
+    requires { ⌜ (m ≤ 16) × (length (now symbols) ≤ 32) × All (λ n. n ≤ 4) (now symbols) × (length (now preds) ≤ 32) × All (λ n. n ≤ 4) (now preds) ⌝ }
+    ensures { λ r. ⌜ r ≡ (leb (cells m (now (symbols .entry))) tables && leb (cells m (now (preds .entry))) marks) ⌝ }
+{
+    (cells::cells_of(symbols, m) <= tables) & (cells::cells_of(preds, m) <= marks)
+}
+
+// Checks a sheet for an accepted file: 9 if a buffer is too short.
+pub fn check_accepted(
+    file: &[u8],
+    sheet: &[u8],
+    known: Known,
+    found: &[u16],
+    tables: &mut [u8],
+    marks: &mut [u8],
+) -> Answer
+    requires { ⌜ (fileAnswer (now file) ≡ accepted) × Knows known (fieldsRead (now file)) × (now found ≡ statesOf (now file)) ⌝ }
+    ensures { λ r. ⌜ gave r (record { tables = now (tables .exit); marks = now (marks .exit) }) ≡ checked (now (file .entry)) (now (sheet .entry)) (record { tables = now (tables .entry); marks = now (marks .entry) }) ⌝ }
+{
+    let counts = known.counts;
+    let symbols = known.symbols;
+    let predicates = known.predicates;
+    let n = wide(counts[1]);
+    let p = wide(counts[4]);
+    let enough = long_enough(
+        &symbols[..n],
+        &predicates[..p],
+        found.len(),
+        tables.len(),
+        marks.len(),
+    );
+    if enough {
+        check_sheet(
+            sheet,
+            file,
+            known,
+            found,
+            &symbols[..n],
+            &predicates[..p],
+            tables,
+            marks,
+        )
+    } else {
+        accept::refusal(9, 0)
+    }
+}

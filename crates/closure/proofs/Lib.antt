@@ -1,0 +1,4 @@
+pub mod News
+pub mod Bringing
+pub mod Seeking
+pub mod Presenting

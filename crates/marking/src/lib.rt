@@ -1,0 +1,80 @@
+// The atoms of a sheet put into the marks, or the first that is wrong (12).
+use faults::Fault;
+ghost use mathlib.Core.Path.{_≡_};
+ghost use mathlib.Core.Bool.{cond};
+ghost use mathlib.Core.Option.{none};
+ghost use lib.Dec.{T, ltb};
+ghost use lib.ListN.{length, getD, set, drop, replicate};
+ghost use Rattle.meaning.specs.Lists.{all};
+ghost use Rattle.meaning.specs.Limits.{atomTag};
+ghost use Rattle.meaning.specs.Fields.{fields, contentsOf, firstField};
+ghost use Rattle.meaning.specs.Cells.{cells};
+ghost use Rattle.meaning.specs.Clauses.{place};
+ghost use Rattle.meaning.specs.Certificates.{isAtomContent, misplaced, wrongAtom};
+ghost use Rattle.faults.specs.Faults.{faultAt};
+ghost use Rattle.marking.specs.Holding.{isFree, Segmented, Holding};
+
+fn wide(b: u8) -> usize
+    ensures { λ r. ⌜ r ≡ b ⌝ }
+{
+    b as usize
+}
+
+fn index(n: u32) -> usize
+    ensures { λ r. ⌜ r ≡ n ⌝ }
+{
+    n as usize
+}
+
+// Whether each state of a row is below m.
+fn all_below(row: &[u8], m: usize) -> bool
+    ensures { λ r. ⌜ r ≡ all (λ d. ltb d m) (now (row .entry)) ⌝ }
+{
+    let mut i = 0;
+    while i < row.len() {
+        if m <= wide(row[i]) {
+            return false;
+        }
+        i += 1;
+    }
+    true
+}
+
+// Marks an atom as new, if its states are below m and it is not marked. Hands back whether that was so.
+fn mark(content: &[u8], marks: &mut [u8], preds: &[u8], segments: &[u32], m: usize) -> bool
+    requires { ⌜ T (isAtomContent (now preds) (now content)) × Segmented m (now preds) (now segments) × (length (now marks) ≡ cells m (now preds)) ⌝ }
+    ensures { λ r. ⌜ (r ≡ isFree m (now (preds .entry)) (now (marks .entry)) (now (content .entry))) × (now (marks .exit) ≡ cond r (set (now (marks .entry)) (place m (now (preds .entry)) (getD (now (content .entry)) 0 0) (drop 1 (now (content .entry)))) 2) (now (marks .entry))) ⌝ }
+{
+    let p = wide(content[0]);
+    let row = &content[1..];
+    if !all_below(row, m) {
+        return false;
+    }
+    let place = index(segments[p]) + cells::cell_of(row, m);
+    if marks[place] != 0 {
+        return false;
+    }
+    marks[place] = 2;
+    true
+}
+
+// Marks the atoms of a sheet as new, to the first field of an atom that has a state not below m or is there for the second time.
+pub fn mark_atoms(sheet: &[u8], marks: &mut [u8], preds: &[u8], segments: &[u32], m: usize) -> Fault
+    requires { ⌜ (firstField (misplaced (now preds)) (fields (now sheet)) ≡ none) × Segmented m (now preds) (now segments) × (now marks ≡ replicate (cells m (now preds)) 0) ⌝ }
+    ensures fault { λ r. ⌜ r ≡ faultAt (firstField (wrongAtom m) (fields (now (sheet .entry)))) ⌝ }
+    ensures size { λ _. ⌜ length (now (marks .exit)) ≡ cells m (now (preds .entry)) ⌝ }
+    ensures holding { λ _. ⌜ (firstField (wrongAtom m) (fields (now (sheet .entry))) ≡ none → Holding m (now (preds .entry)) (contentsOf atomTag (fields (now (sheet .entry)))) (now (marks .exit))) ⌝ }
+{
+    let mut at: usize = 0;
+    let mut k: usize = 0;
+    while at < sheet.len() {
+        if sheet[at] == 17 {
+            if !mark(fields::content_at(sheet, at), marks, preds, segments, m) {
+                return Fault::At(k);
+            }
+        }
+        at = fields::next_at(sheet, at);
+        k += 1;
+    }
+    Fault::Nowhere
+}

@@ -1,0 +1,127 @@
+-- What is handed on, by the names that the code has for it. Assumes nothing.
+use Prim.Native.Nat.{ℕ, _≤_}
+use mathlib.Core.Path.{_≡_, refl, sym, ap₂, subst, _∙_}
+use mathlib.Core.List.{List, map}
+use native.Mathlib.Nat.{le-trans}
+use lib.Dec.{lit≤}
+use lib.ListN.{length, getD, take}
+use Rattle.meaning.specs.Lists.{All, lowest}
+use Rattle.meaning.specs.Cells.{cells}
+use Rattle.meaning.specs.Clauses.{model, rounds}
+use Rattle.meaning.specs.Certificates.{markedAtoms, violatedAt}
+use Rattle.meaning.specs.Files.{rulesOf}
+use Rattle.meaning.specs.Calls.{statesOf, interpretationOf, tablesOf, roundsOf, modelOf, atomsOf, verdictsOf, written}
+use Rattle.meaning.proofs.Lists.{All-map}
+use Rattle.refusals.specs.declared.Known.{Known}
+use Rattle.refusals.specs.Tests.{knownTypes, knownSymbols, knownPredicates, earlierIn}
+use Rattle.accept.proofs.Answering.{accepted-read, accepted-few}
+use Rattle.accept.proofs.Ready.{limited}
+use Rattle.instances.specs.Partial.{lookUp}
+use Rattle.model.specs.Rounds.{clausesIn, Modelling}
+use Rattle.verdicts.specs.Asking.{Asking}
+use Rattle.cells.specs.Starts.{Starts}
+use Rattle.results.specs.Handed.{Handed, Queries, verdictIn}
+use Rattle.results.proofs.Fronts.{holds-room, holds-first}
+use Rattle.results.proofs.Handed as laws
+
+module _ {file : List ℕ} {known : Known} {symbols preds : List ℕ} {m : ℕ} {starts segments tables : List ℕ} (h : Handed file known symbols preds m starts segments tables) where
+  -- what holds of what is known holds of what is handed on
+  at : (P : ℕ → List ℕ → List ℕ → List ℕ → Type 0) → P (length (statesOf file)) (knownSymbols known) (knownPredicates known) (written (tablesOf file) tables) → P m symbols preds tables
+  at P p =
+      subst (λ (n : ℕ). P n symbols preds tables) (sym (h .count))
+      (subst (λ (ss : List ℕ). P (length (statesOf file)) ss preds tables) (sym (h .symbolsAre))
+      (subst (λ (ps : List ℕ). P (length (statesOf file)) (knownSymbols known) ps tables) (sym (h .predsAre))
+      (subst (λ (t : List ℕ). P (length (statesOf file)) (knownSymbols known) (knownPredicates known) t) (sym (h .table)) p)))
+
+  starts-known : Starts (length (statesOf file)) (knownSymbols known) starts
+  starts-known = subst (λ (n : ℕ). Starts n (knownSymbols known) starts) (h .count) (subst (λ (ss : List ℕ). Starts m ss starts) (h .symbolsAre) (h .begin))
+
+  segments-known : Starts (length (statesOf file)) (knownPredicates known) segments
+  segments-known = subst (λ (n : ℕ). Starts n (knownPredicates known) segments) (h .count) (subst (λ (ps : List ℕ). Starts m ps segments) (h .predsAre) (h .segment))
+
+  pub few-states : m ≤ 16
+  few-states = subst (λ (n : ℕ). n ≤ 16) (sym (h .count)) (accepted-few file (h .answer))
+
+  pub few-preds : length preds ≤ 16
+  few-preds = subst (λ (ps : List ℕ). length ps ≤ 16) (sym (h .predsAre)) (laws.few-predicates file known (h .answer) (h .knows))
+
+  pub narrow-preds : All (λ n. n ≤ 3) preds
+  narrow-preds = subst (All (λ n. n ≤ 3)) (sym (h .predsAre)) (laws.narrow-predicates file known (h .answer) (h .knows))
+
+  pub fit-preds : All (λ n. n ≤ 4) preds
+  fit-preds = All-map preds (λ n le. le-trans le (lit≤ tt)) narrow-preds
+
+  pub handed-modelling : Modelling m symbols starts tables preds segments (earlierIn file known 5)
+  handed-modelling =
+      at (λ n ss ps t. Modelling n ss starts t ps segments (earlierIn file known 5))
+      (laws.modelling file known (h .answer) (h .knows) tables starts segments (starts-known .enough) (starts-known .each) (segments-known .enough) (segments-known .each))
+
+  pub handed-clauses : length (earlierIn file known 5) ≡ getD (known .counts) 5 0
+  handed-clauses = laws.clauses-counted file known (h .answer) (h .knows)
+
+  pub handed-model : model m (lookUp m symbols tables) preds (clausesIn symbols preds (earlierIn file known 5)) ≡ modelOf file
+  handed-model =
+      at (λ n ss ps t. model n (lookUp n ss t) ps (clausesIn ss ps (earlierIn file known 5)) ≡ modelOf file) (laws.model-is file known (h .answer) (h .knows) tables)
+
+  pub handed-rounds : rounds m (lookUp m symbols tables) preds (clausesIn symbols preds (earlierIn file known 5)) ≡ roundsOf file
+  handed-rounds =
+      at (λ n ss ps t. rounds n (lookUp n ss t) ps (clausesIn ss ps (earlierIn file known 5)) ≡ roundsOf file) (laws.rounds-are file known (h .answer) (h .knows) tables)
+
+  pub handed-violations : (atoms : List (List ℕ))
+      → lowest (length (clausesIn symbols preds (earlierIn file known 5))) (violatedAt m (lookUp m symbols tables) atoms (clausesIn symbols preds (earlierIn file known 5)))
+      ≡ lowest (length (rulesOf file .clauses)) (violatedAt (length (statesOf file)) (interpretationOf file) atoms (rulesOf file .clauses))
+  handed-violations atoms =
+      at (λ n ss ps t.
+      lowest (length (clausesIn ss ps (earlierIn file known 5))) (violatedAt n (lookUp n ss t) atoms (clausesIn ss ps (earlierIn file known 5)))
+      ≡ lowest (length (rulesOf file .clauses)) (violatedAt (length (statesOf file)) (interpretationOf file) atoms (rulesOf file .clauses)))
+      (laws.violations-are file known (h .answer) (h .knows) tables atoms)
+
+  pub handed-size : cells m preds ≡ length (modelOf file)
+  handed-size = at (λ n ss ps t. cells n ps ≡ length (modelOf file)) (laws.model-size file known (h .answer) (h .knows))
+
+  pub handed-atoms : length (markedAtoms m preds (modelOf file)) ≡ length (atomsOf file)
+  unfolding atomsOf
+  handed-atoms = at (λ n ss ps t. length (markedAtoms n ps (modelOf file)) ≡ length (atomsOf file)) (laws.atoms-are file known (h .answer) (h .knows))
+
+  pub handed-asking : (sets marks : List ℕ) → sets ≡ statesOf file → marks ≡ modelOf file → Asking (knownTypes known) m sets symbols starts tables preds segments marks
+  handed-asking sets marks is mark =
+      subst (λ (l : List ℕ). Asking (knownTypes known) m l symbols starts tables preds segments marks) (sym is)
+      (subst (λ (l : List ℕ). Asking (knownTypes known) m (statesOf file) symbols starts tables preds segments l) (sym mark)
+      (at (λ n ss ps t. Asking (knownTypes known) n (statesOf file) ss starts t ps segments (modelOf file))
+      (record {
+        setting = laws.setting file known (h .answer) (h .knows) tables starts segments (starts-known .enough) (starts-known .each);
+        placed =
+            record {
+              narrow = laws.narrow-predicates file known (h .answer) (h .knows);
+              enough = segments-known .enough;
+              segmented = segments-known .each;
+              size = sym (laws.model-size file known (h .answer) (h .knows));
+            };
+        fewTypes = limited file known (accepted-read file (h .answer)) (h .knows) .bits;
+        sized = refl;
+      })))
+
+  pub handed-queries : Queries (knownTypes known) symbols preds (earlierIn file known 6)
+  handed-queries = at (λ n ss ps t. Queries (knownTypes known) ss ps (earlierIn file known 6)) (laws.queries-read file known (h .answer) (h .knows))
+
+  pub handed-count : length (earlierIn file known 6) ≡ getD (known .counts) 6 0
+  handed-count = laws.queries-counted file known (h .answer) (h .knows)
+
+  pub handed-verdicts : (sets marks : List ℕ) → sets ≡ statesOf file → marks ≡ modelOf file → map (verdictIn (knownTypes known) m sets symbols tables preds marks) (earlierIn file known 6) ≡ verdictsOf file
+  handed-verdicts sets marks is mark =
+      ap₂ (λ (s l : List ℕ). map (verdictIn (knownTypes known) m s symbols tables preds l) (earlierIn file known 6)) is mark
+      ∙ at (λ n ss ps t. map (verdictIn (knownTypes known) n (statesOf file) ss t ps (modelOf file)) (earlierIn file known 6) ≡ verdictsOf file) (laws.verdicts-are file known (h .answer) (h .knows) tables)
+
+  pub handed-needed : length (verdictsOf file) ≡ getD (known .counts) 6 0
+  handed-needed = laws.verdicts-needed file known (h .answer) (h .knows)
+
+  -- the model in the marks
+  module _ {marks : List ℕ} (is : marks ≡ written (modelOf file) marks) {n : ℕ} (e : n ≡ cells m preds) where
+    size-is : length (modelOf file) ≡ n
+    size-is = sym (e ∙ handed-size)
+
+    pub marks-room : n ≤ length marks
+    marks-room = holds-room (modelOf file) marks is (sym size-is)
+
+    pub marks-are : take n marks ≡ modelOf file
+    marks-are = holds-first (modelOf file) marks is (sym size-is)

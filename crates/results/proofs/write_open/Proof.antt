@@ -1,0 +1,64 @@
+-- `results::write_open` meets its contract: the verdicts over the model are the file's. Assumes nothing.
+use Prim.Native.Nat.{ℕ, _≤_}
+use mathlib.Core.Path.{sym, ap₂, subst, _∙_}
+use mathlib.Core.List.{List, _++_}
+use native.Mathlib.Nat.{le-trans}
+use lib.Dec.{lit≤}
+use lib.ListN.{length, take, drop}
+use lib.Seq.{length-take-le}
+use Rattle.results.proofs.Handing.{few-states, few-preds, fit-preds, handed-asking, handed-queries, handed-count, handed-needed, handed-verdicts, marks-room, marks-are}
+use borrow.Author.Needs.{needs}
+use Rattle.results.proofs.write_open.Statement.{statement}
+use Rattle.results.proofs.write_open.Tie as tie
+
+cells-of-requires : tie.Need-cells-of-requires
+cells-of-requires c κs = let h = c .before .before .before .before .before .before .before .before .before .before .before .pre .0 in (few-states h, le-trans (few-preds h) (lit≤ tt), fit-preds h)
+
+array-read-write-verdicts : tie.Need-array-read-write-verdicts
+array-read-write-verdicts c = search needs
+
+array-read-write-verdicts-2 : tie.Need-array-read-write-verdicts-2
+array-read-write-verdicts-2 c = search needs
+
+array-read-write-verdicts-3 : tie.Need-array-read-write-verdicts-3
+array-read-write-verdicts-3 c = search needs
+
+slice-aggregate-write-verdicts : tie.Need-slice-aggregate-write-verdicts
+slice-aggregate-write-verdicts c =
+    let p = c .before .before .before .before .before .before .before .before .before .before .before .before .before .before .pre in
+    sym (length-take-le (c .before .before .cells-of .result) (c .before .before .before .before .before .before .before .before .before .before .before .before .before .before .args .marks .now) (marks-room (p .0) (p .2) (c .before .before .cells-of .ensures)))
+
+write-verdicts-requires : tie.Need-write-verdicts-requires
+write-verdicts-requires c κs =
+    let x = c .before .before .before .before .before .before .before .before .before .before .before .before .before .before in
+    let h = x .pre .0 in (
+      handed-asking h (x .args .found .now) (take (c .before .before .cells-of .result) (x .args .marks .now)) (x .pre .1) (marks-are h (x .pre .2) (c .before .before .cells-of .ensures)),
+      subst (λ (n : ℕ). n ≤ length (x .args .verdicts .now)) (handed-needed h) (x .pre .3),
+      handed-count h,
+      handed-queries h,
+    )
+
+same-length : tie.Need-same-length
+same-length c = search needs
+
+returns : tie.Need-returns
+returns c =
+    let x = c .before .before .before .before .before .before .before .before .before .before .before .before .before .before .before .before .before in
+    let h = x .pre .0 in
+    c .before .before .write-verdicts .ensures
+    ∙ ap₂ (λ (l : List ℕ) (n : ℕ). l ++ drop n (x .args .verdicts .now))
+    (handed-verdicts h (x .args .found .now) (take (c .before .before .before .before .before .cells-of .result) (x .args .marks .now)) (x .pre .1) (marks-are h (x .pre .2) (c .before .before .before .before .before .cells-of .ensures)))
+    (sym (handed-needed h))
+
+pub write-open-spec : {M : Type 1} → statement M
+write-open-spec =
+    tie.close
+    (tie.spec
+    cells-of-requires
+    array-read-write-verdicts
+    array-read-write-verdicts-2
+    array-read-write-verdicts-3
+    slice-aggregate-write-verdicts
+    write-verdicts-requires
+    same-length
+    returns)

@@ -1,0 +1,38 @@
+-- What is handed on of an accepted file, and its verdicts.
+use Prim.Native.Nat.{ℕ}
+use mathlib.Core.Path.{_≡_}
+use mathlib.Core.List.{List}
+use lib.Dec.{T}
+use lib.ListN.{length}
+use Rattle.meaning.specs.Lists.{All}
+use Rattle.meaning.specs.Types.{bit}
+use Rattle.meaning.specs.Contents.{isSome, readQuery}
+use Rattle.cells.specs.Starts.{Starts}
+use Rattle.meaning.specs.Clauses.{marked, isOpen}
+use Rattle.meaning.specs.Refusals.{accepted}
+use Rattle.meaning.specs.Files.{fileAnswer}
+use Rattle.meaning.specs.Calls.{statesOf, tablesOf, written}
+use Rattle.refusals.specs.declared.Known.{Known}
+use Rattle.refusals.specs.Known.{Knows, fieldsRead}
+use Rattle.refusals.specs.Tests.{knownSymbols, knownPredicates}
+use Rattle.instances.specs.Partial.{lookUp}
+use Rattle.verdicts.specs.Asking.{queryOf}
+
+-- what is handed on of an accepted file: its arities, states and tables
+pub record Handed (file : List ℕ) (known : Known) (symbols preds : List ℕ) (m : ℕ) (starts segments tables : List ℕ) : Type 0 where
+  pub answer : fileAnswer file ≡ accepted
+  pub knows : Knows known (fieldsRead file)
+  pub symbolsAre : symbols ≡ knownSymbols known
+  pub predsAre : preds ≡ knownPredicates known
+  pub count : m ≡ length (statesOf file)
+  pub begin : Starts m symbols starts
+  pub segment : Starts m preds segments
+  pub table : tables ≡ written (tablesOf file) tables
+
+-- contents that say queries, and the byte of a verdict
+abbrev pub Queries : ℕ → List ℕ → List ℕ → List (List ℕ) → Type 0
+Queries types arities preds contents = All (λ (c : List ℕ). T (isSome (readQuery types arities preds c))) contents
+
+abbrev pub verdictIn : ℕ → ℕ → List ℕ → List ℕ → List ℕ → List ℕ → List ℕ → List ℕ → ℕ
+verdictIn types m sets arities tables preds marks content =
+    bit (isOpen sets m (lookUp m arities tables) (marked m preds marks) (queryOf types arities preds content))

@@ -1,0 +1,106 @@
+-- `sheets::first_misplaced` meets its contract. The invariant: some fields are read, none of them misplaced, the next starts at the position, and
+-- `atoms` says whether an atom's is among them. What is left of the sheet falls. Assumes nothing.
+use Prim.Native.Nat.{ℕ, _+_, _-_}
+use mathlib.Core.Path.{_≡_, refl, sym, ap, ap₂, _∙_}
+use mathlib.Core.Bool.{Bool}
+use mathlib.Core.List.{List, []}
+use native.Mathlib.Omega.{arith}
+use lib.ListN.{length, take, drop}
+use Rattle.meaning.specs.Fields.{Field, whole}
+use Rattle.meaning.specs.Certificates.{misplaced}
+use Rattle.meaning.proofs.Lists.{T-of, T-not-of}
+use Rattle.faults.specs.Faults.{faultAt}
+use Rattle.sheets.specs.Reading.{misplacedAfter}
+use Rattle.sheets.proofs.Walking.{Walked, walked-none, Stands, stands, walk-end, walk-cut, walk-stop, walk-on}
+use Rattle.sheets.proofs.Placing.{seen, seen-next}
+use borrow.Author.Needs.{needs}
+use Rattle.sheets.proofs.first_misplaced.Statement.{statement}
+use Rattle.sheets.proofs.first_misplaced.Tie as tie
+
+abbrev Inv-loop : tie.InvT-loop
+Inv-loop sheet preds at₀ k₀ atoms₀ at k atoms = (done : List Field) × Walked (misplaced preds) sheet at k done × (atoms ≡ seen done)
+
+abbrev μ-loop : tie.MeasureT-loop
+μ-loop sheet preds at₀ k₀ atoms₀ at k atoms = length sheet - at
+
+-- the field that was found
+stand : (c : tie.After-known-told Inv-loop μ-loop) → Stands (c .before .before .before .before .before .before .before .args .sheet .now) (c .before .before .before .before .loop .at) (c .before .tag .given .0 .0) (c .before .tag .given .0 .1 .0)
+stand c = stands (c .before .before .before .before .before .before .before .args .sheet .now) (c .before .before .before .before .loop .at) (c .before .before .before .field-at .ensures) (c .before .tag .given .1)
+
+-- what was said of it
+said : (c : tie.After-is-misplaced Inv-loop μ-loop)
+    → c .is-misplaced .result
+    ≡ misplaced (c .before .before .before .before .before .before .before .before .before .args .preds .now) (c .before .before .before .before .before .before .loop .inv .0) (whole (c .before .before .before .tag .given .0 .0) (take (c .before .before .before .tag .given .0 .1 .0) (drop (c .before .before .before .before .before .before .loop .at + 3) (c .before .before .before .before .before .before .before .before .before .args .sheet .now))))
+said c =
+    c .is-misplaced .ensures
+    ∙ ap₂ (λ (b : Bool) (l : List ℕ). misplacedAfter (c .before .before .before .before .before .before .before .before .before .args .preds .now) b (c .before .before .before .tag .given .0 .0) l) (c .before .before .before .before .before .before .loop .inv .2) (c .before .content .ensures .0)
+
+loop-holds : tie.Need-loop-holds Inv-loop μ-loop
+loop-holds c = ([], walked-none (misplaced (c .before .before .args .preds .now)) (c .before .before .args .sheet .now), refl)
+
+field-at-requires : tie.Need-field-at-requires Inv-loop μ-loop
+field-at-requires c κs = search needs
+
+enum-known-tag : tie.Need-enum-known-tag Inv-loop μ-loop
+enum-known-tag c = search needs
+
+content-requires : tie.Need-content-requires Inv-loop μ-loop
+content-requires c κs = stand c .inside
+
+is-misplaced-requires : tie.Need-is-misplaced-requires Inv-loop μ-loop
+is-misplaced-requires c κs = search needs
+
+returns : tie.Need-returns Inv-loop μ-loop
+returns c = ap faultAt (sym (walk-stop (c .before .before .before .before .before .before .before .loop .inv .1) (stand (c .before .before .before)) (T-of _ (sym (said (c .before)) ∙ c .if1 .taken))))
+
+add-at : tie.Need-add-at Inv-loop μ-loop
+add-at c = omega (arith, stand (c .before .before .before) .inside)
+
+add-at-2 : tie.Need-add-at-2 Inv-loop μ-loop
+add-at-2 c = omega (arith, stand (c .before .before .before) .inside)
+
+add-k : tie.Need-add-k Inv-loop μ-loop
+add-k c = omega (arith, stand (c .before .before .before) .inside, c .before .before .before .before .before .before .before .loop .inv .1 .few)
+
+loop-less : tie.Need-loop-less Inv-loop μ-loop
+loop-less c = omega (arith, stand (c .before .before .before) .inside)
+
+loop-again : tie.Need-loop-again Inv-loop μ-loop
+loop-again c =
+    let l = c .before .before .before .before .before .before .before .loop in
+    let fine = T-not-of _ (sym (said (c .before)) ∙ c .if1 .left) in
+    (_, walk-on (l .inv .1) (stand (c .before .before .before)) fine, seen-next (c .before .before .before .before .before .before .before .before .before .before .args .preds .now) (l .inv .0) (c .before .before .before .before .tag .given .0 .0) _ fine)
+
+enum-told : tie.Need-enum-told Inv-loop μ-loop
+enum-told c = search needs
+
+returns-2 : tie.Need-returns-2 Inv-loop μ-loop
+returns-2 c = ap faultAt (sym (walk-cut (c .before .before .before .loop .inv .1) (c .before .before .field-at .ensures) (c .enum-told .given .1) tt))
+
+enum-told-2 : tie.Need-enum-told-2 Inv-loop μ-loop
+enum-told-2 c = search needs
+
+returns-3 : tie.Need-returns-3 Inv-loop μ-loop
+returns-3 c = ap faultAt (sym (walk-end (c .before .before .before .loop .inv .1) (c .before .before .field-at .ensures) (c .enum-told2 .given .1)))
+
+pub first-misplaced-spec : {M : Type 1} → statement M
+first-misplaced-spec =
+    tie.close
+    (tie.spec
+    Inv-loop
+    μ-loop
+    loop-holds
+    field-at-requires
+    enum-known-tag
+    content-requires
+    is-misplaced-requires
+    returns
+    add-at
+    add-at-2
+    add-k
+    loop-less
+    loop-again
+    enum-told
+    returns-2
+    enum-told-2
+    returns-3)

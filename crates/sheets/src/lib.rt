@@ -1,0 +1,115 @@
+// A sheet read field by field: the first field that is misplaced (10), and the first state that differs (11).
+use faults::Fault;
+use fields::Found;
+ghost use Prim.Native.Nat.{_+_, _≤_, max};
+ghost use mathlib.Core.Path.{_≡_};
+ghost use mathlib.Core.Bool.{_&&_};
+ghost use lib.Dec.{eqb, ltb};
+ghost use lib.ListN.{length, getD};
+ghost use Rattle.meaning.specs.Lists.{lowest};
+ghost use Rattle.meaning.specs.Limits.{stateTag};
+ghost use Rattle.meaning.specs.Fields.{fields, firstField, word};
+ghost use Rattle.meaning.specs.Certificates.{isAtomContent, misplaced, statesIn, differ};
+ghost use Rattle.faults.specs.Faults.{faultAt};
+ghost use Rattle.sheets.specs.Reading.{misplacedAfter, Placed};
+
+fn wide(b: u8) -> usize
+    ensures { λ r. ⌜ r ≡ b ⌝ }
+{
+    b as usize
+}
+
+// Whether a content is an atom's: a declared predicate, and as many bytes after it as its arity.
+fn is_atom(content: &[u8], preds: &[u8]) -> bool
+    ensures { λ r. ⌜ r ≡ isAtomContent (now (preds .entry)) (now (content .entry)) ⌝ }
+{
+    if content.len() == 0 {
+        return false;
+    }
+    let p = wide(content[0]);
+    if p < preds.len() {
+        return wide(preds[p]) + 1 == content.len();
+    }
+    false
+}
+
+// Whether a whole field is misplaced; `atoms` says if an atom's field stands before it.
+fn is_misplaced(tag: u8, content: &[u8], preds: &[u8], atoms: bool) -> bool
+    ensures { λ r. ⌜ r ≡ misplacedAfter (now (preds .entry)) atoms tag (now (content .entry)) ⌝ }
+{
+    if tag == 16 {
+        if atoms {
+            return true;
+        }
+        return content.len() != 2;
+    }
+    if tag == 17 {
+        return !is_atom(content, preds);
+    }
+    true
+}
+
+// The first field that is misplaced.
+pub fn first_misplaced(sheet: &[u8], preds: &[u8]) -> Fault
+    ensures { λ r. ⌜ r ≡ faultAt (firstField (misplaced (now (preds .entry))) (fields (now (sheet .entry)))) ⌝ }
+{
+    let mut at: usize = 0;
+    let mut k: usize = 0;
+    let mut atoms = false;
+    loop {
+        match fields::field_at(sheet, at) {
+            Found::Whole(tag, len) => {
+                if is_misplaced(tag, fields::content(sheet, at, len), preds, atoms) {
+                    return Fault::At(k);
+                }
+                // no atom's field stands before a state's
+                atoms = tag == 17;
+                at = at + 3 + len;
+                k += 1;
+            }
+            Found::Cut => return Fault::At(k),
+            Found::End => return Fault::Nowhere,
+        }
+    }
+}
+
+// Whether a state's field starts at a position.
+fn is_state(sheet: &[u8], at: usize) -> bool
+    ensures { λ r. ⌜ r ≡ (ltb at (length (now (sheet .entry))) && eqb (getD (now (sheet .entry)) at 0) stateTag) ⌝ }
+{
+    if at < sheet.len() {
+        return sheet[at] == 16;
+    }
+    false
+}
+
+// Two bytes as a number, high byte first.
+fn word_at(sheet: &[u8], at: usize) -> u16
+    requires { ⌜ at + 2 ≤ length (now sheet) ⌝ }
+    ensures { λ r. ⌜ r ≡ word (getD (now (sheet .entry)) at 0) (getD (now (sheet .entry)) (at + 1) 0) ⌝ }
+{
+    (sheet[at] as u16) * 256 + (sheet[at + 1] as u16)
+}
+
+// The first place where the sheet's states and the given ones differ, a missing or extra one included.
+pub fn first_difference(sheet: &[u8], states: &[u16]) -> Fault
+    requires { ⌜ Placed (now sheet) ⌝ }
+    ensures { λ r. ⌜ r ≡ faultAt (lowest (max (length (statesIn (fields (now (sheet .entry))))) (length (now (states .entry)))) (differ (statesIn (fields (now (sheet .entry)))) (now (states .entry)))) ⌝ }
+{
+    let mut at: usize = 0;
+    let mut i: usize = 0;
+    while i < states.len() {
+        if !is_state(sheet, at) {
+            return Fault::At(i);
+        }
+        if word_at(sheet, at + 3) != states[i] {
+            return Fault::At(i);
+        }
+        at = at + 5;
+        i += 1;
+    }
+    if is_state(sheet, at) {
+        return Fault::At(i);
+    }
+    Fault::Nowhere
+}
