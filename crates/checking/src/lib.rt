@@ -4,10 +4,7 @@ use faults::Fault;
 use refusals::Known;
 ghost use Prim.Native.Nat.{_≤_};
 ghost use mathlib.Core.Path.{_≡_};
-ghost use mathlib.Core.Bool.{_&&_};
-ghost use lib.Dec.{leb};
 ghost use lib.ListN.{length, replicate};
-ghost use Rattle.meaning.specs.Lists.{All};
 ghost use Rattle.meaning.specs.Cells.{cells};
 ghost use Rattle.meaning.specs.Refusals.{accepted};
 ghost use Rattle.meaning.specs.Certificates.{sheetAnswer};
@@ -145,14 +142,6 @@ fn check_sheet(
     )
 }
 
-// Whether each buffer of a check is long enough, by their lengths.
-fn long_enough(symbols: &[u8], preds: &[u8], m: usize, tables: usize, marks: usize) -> bool
-    requires { ⌜ (m ≤ 16) × (length (now symbols) ≤ 32) × All (λ n. n ≤ 4) (now symbols) × (length (now preds) ≤ 32) × All (λ n. n ≤ 4) (now preds) ⌝ }
-    ensures { λ r. ⌜ r ≡ (leb (cells m (now (symbols .entry))) tables && leb (cells m (now (preds .entry))) marks) ⌝ }
-{
-    (cells::cells_of(symbols, m) <= tables) & (cells::cells_of(preds, m) <= marks)
-}
-
 // Checks a sheet for an accepted file: 9 if a buffer is too short.
 pub fn check_accepted(
     file: &[u8],
@@ -170,7 +159,7 @@ pub fn check_accepted(
     let predicates = known.predicates;
     let n = wide(counts[1]);
     let p = wide(counts[4]);
-    let enough = long_enough(
+    let enough = lengths::lent_enough(
         &symbols[..n],
         &predicates[..p],
         found.len(),

@@ -8,7 +8,7 @@ use mathlib.Core.Option.{none, some, Option·some-ne-none}
 use native.Mathlib.Omega.{arith}
 use lib.Dec.{T, eqb, ltb}
 use lib.ListN.{length, getD, drop, set, replicate, length-append, length-replicate, length-drop, drop-of-length-le}
-use lib.Seq.{drop-cons, append-snoc}
+use lib.Seq.{append-snoc}
 use borrow.Author.Tests.{ne-eqb}
 use Rattle.meaning.specs.Lists.{all, any, same}
 use Rattle.meaning.specs.Limits.{atomTag}
@@ -19,6 +19,7 @@ use Rattle.meaning.specs.Certificates.{isAtomContent, misplaced, wrongAtom}
 use Rattle.meaning.proofs.Lists.{T-of, T-not-of, not-not}
 use Rattle.meaning.proofs.Fields.{first-after, FrontIs, front-law, fields-step, fields-nil, contentsOf-append, contentsOf-other, NoField, NoField-append, firstField-none}
 use Rattle.fields.specs.Found.{contentIn, nextIn}
+use Rattle.reader.specs.Tags.{tagIn}
 use Rattle.fields.proofs.Fronts.{front-rest}
 use Rattle.faults.specs.declared.Fault.the-variants.{Nowhere, At}
 use Rattle.faults.specs.Faults.{faultAt}
@@ -97,10 +98,8 @@ module _ (m : ℕ) (preds sheet : List ℕ) where
                 fits = subst (NoField (misplaced preds) done) (fields-step (drop at sheet) ∙ ap (onFront fields) e) left .0;
               }
 
-      tag-is : getD sheet at 0 ≡ here .tag
-      tag-is =
-          let w : FrontIs (drop at sheet) (front (here .tag) (here .content) (here .rest)) = subst (FrontIs (drop at sheet)) (here .is) (front-law (drop at sheet)) in
-          ap (λ (l : List ℕ). getD l 0 0) (sym (drop-cons sheet at 0 lt) ∙ w .2)
+      tag-is : tagIn (frontOf (drop at sheet)) ≡ here .tag
+      tag-is = ap tagIn (here .is)
 
       content-is : contentIn (frontOf (drop at sheet)) ≡ here .content
       content-is = ap contentIn (here .is)
@@ -142,7 +141,7 @@ module _ (m : ℕ) (preds sheet : List ℕ) where
       -- a field that is no atom's
       pub turn-other : {at′ : ℕ} {marks′ : List ℕ}
           → at′ ≡ nextIn at (frontOf (drop at sheet))
-          → getD sheet at 0 ≢ 17
+          → tagIn (frontOf (drop at sheet)) ≢ 17
           → marks′ ≡ marks
           → (later : List Field) × Reached m preds sheet at′ (k + 1) marks′ later
       turn-other next ne e =
@@ -153,7 +152,7 @@ module _ (m : ℕ) (preds sheet : List ℕ) where
           (subst₂ (Holding m preds) (sym (other-atoms done (here .tag) (here .content) other)) (sym e) (r .holding))
 
       -- an atom's
-      module _ (seventeen : getD sheet at 0 ≡ 17) where
+      module _ (seventeen : tagIn (frontOf (drop at sheet)) ≡ 17) where
         pub atom-here : T (isAtomContent preds (contentIn (frontOf (drop at sheet))))
         atom-here =
             subst

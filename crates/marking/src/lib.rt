@@ -68,12 +68,12 @@ pub fn mark_atoms(sheet: &[u8], marks: &mut [u8], preds: &[u8], segments: &[u32]
     let mut at: usize = 0;
     let mut k: usize = 0;
     while at < sheet.len() {
-        if sheet[at] == 17 {
-            if !mark(fields::content_at(sheet, at), marks, preds, segments, m) {
+        if reader::tag_of(sheet, at) == 17 {
+            if !mark(reader::content_of(sheet, at), marks, preds, segments, m) {
                 return Fault::At(k);
             }
         }
-        at = fields::next_at(sheet, at);
+        at = reader::next_of(sheet, at);
         k += 1;
     }
     Fault::Nowhere

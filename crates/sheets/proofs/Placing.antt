@@ -4,19 +4,20 @@ use mathlib.Core.Path.{_≡_, refl, sym, ap, ap₂, subst, _∙_}
 use mathlib.Core.Logic.{_⊎_, inl, inr, ⊎-elim}
 use mathlib.Core.Bool.{Bool, true, false, cond, not, _&&_, _||_}
 use mathlib.Core.List.{List, [], _∷_, _++_, map, append-nil, append-assoc, map-append}
-use native.Mathlib.Nat.{add-zero}
 use native.Mathlib.Numerals.{add-one}
 use native.Mathlib.Omega.{arith}
 use lib.Dec.{T, eqb, ltb, eqb→eq, eqb·suc-suc}
-use lib.ListN.{length, getD, drop, length-append, length-drop, length-map, List·getD-append}
-use lib.Seq.{getD-drop, getD-at}
+use lib.ListN.{length, getD, drop, length-append, length-map}
+use lib.Seq.{getD-at}
 use borrow.Author.Tests.{lt-ltb, le-ltb, eq-eqb, ne-eqb}
 use Rattle.meaning.specs.Limits.{stateTag, atomTag}
 use Rattle.meaning.specs.Fields.{Field, whole, cut, word, Front, empty, short, front, frontOf, onFront, fields, contentsOf}
 use Rattle.meaning.specs.Certificates.{isAtomContent, misplaced, statesIn}
 use Rattle.meaning.proofs.Lists.{T-of, T-false, clash, not-not, neither}
-use Rattle.meaning.proofs.Fields.{FrontIs, front-law, fields-step, contentsOf-append, NoField, firstField-none}
-use Rattle.fields.proofs.Fronts.{front-rest, front-inside}
+use Rattle.meaning.proofs.Fields.{fields-step, contentsOf-append, NoField, firstField-none}
+use Rattle.fields.specs.Found.{contentIn, nextIn}
+use Rattle.fields.proofs.Fronts.{front-rest}
+use Rattle.reader.specs.Tags.{tagIn}
 use Rattle.sheets.specs.Reading.{misplacedAfter, Placed}
 
 -- an atom's content, by its first byte
@@ -132,32 +133,20 @@ reads-none sheet p =
       fits = firstField-none (misplaced (p .preds)) (fields sheet) .0 (p .fits);
     }
 
--- whether a state's field starts at a position
-abbrev pub stateAt : List ℕ → ℕ → Bool
-stateAt sheet at = ltb at (length sheet) && eqb (getD sheet at 0) stateTag
-
--- it is state i; the next field starts 5 bytes on
-pub record StateHere (sheet : List ℕ) (at i : ℕ) : Type 0 where
-  pub place : i < length (statesIn (fields sheet))
-  pub inside : at + 5 ≤ length sheet
-  pub is : word (getD sheet (at + 3) 0) (getD sheet (at + 3 + 1) 0) ≡ getD (statesIn (fields sheet)) i 0
-  pub next : Reads sheet (at + 5) (i + 1)
-
--- what each answer tells
-abbrev Looked : List ℕ → ℕ → ℕ → Bool → Type 0
-Looked sheet at i true = StateHere sheet at i
-Looked sheet at i false = length (statesIn (fields sheet)) ≡ i
-
 abbrev stateOf : List ℕ → ℕ
 stateOf content = word (getD content 0 0) (getD content 1 0)
 
--- the first byte of a position's field says whether it is a state's
-state-first : (sheet : List ℕ) (at tag : ℕ) (l : List ℕ) → drop at sheet ≡ tag ∷ l → stateAt sheet at ≡ eqb tag 16
-state-first sheet at tag l e =
-    ap₂
-    (λ (b : Bool) (t : ℕ). b && eqb t 16)
-    (lt-ltb at (length sheet) (omega (arith, sym (length-drop at sheet) ∙ ap length e)))
-    (ap (λ (n : ℕ). getD sheet n 0) (sym (add-zero at)) ∙ (sym (getD-drop at sheet 0 0) ∙ ap (λ (k : List ℕ). getD k 0 0) e))
+-- a state's field stands at a position: it is state i
+pub record StateHere (sheet : List ℕ) (at i : ℕ) : Type 0 where
+  pub place : i < length (statesIn (fields sheet))
+  pub long : length (contentIn (frontOf (drop at sheet))) ≡ 2
+  pub is : word (getD (contentIn (frontOf (drop at sheet))) 0 0) (getD (contentIn (frontOf (drop at sheet))) 1 0) ≡ getD (statesIn (fields sheet)) i 0
+  pub next : Reads sheet (nextIn at (frontOf (drop at sheet))) (i + 1)
+
+-- what the tag tells
+abbrev Looked : List ℕ → ℕ → ℕ → Bool → Type 0
+Looked sheet at i true = StateHere sheet at i
+Looked sheet at i false = length (statesIn (fields sheet)) ≡ i
 
 module _ (sheet : List ℕ) (at i : ℕ) (r : Reads sheet at i) where
   size : length (statesIn (r .done)) ≡ i
@@ -179,9 +168,6 @@ module _ (sheet : List ℕ) (at i : ℕ) (r : Reads sheet at i) where
     fields-here : fields (drop at sheet) ≡ whole tag content ∷ fields rest
     fields-here = fields-step (drop at sheet) ∙ ap (onFront fields) e
 
-    bytes : FrontIs (drop at sheet) (front tag content rest)
-    bytes = subst (FrontIs (drop at sheet)) e (front-law (drop at sheet))
-
     fine : NoField (misplaced (r .preds)) (r .done) (whole tag content ∷ fields rest)
     fine = subst (NoField (misplaced (r .preds)) (r .done)) fields-here (r .fits)
 
@@ -190,22 +176,17 @@ module _ (sheet : List ℕ) (at i : ℕ) (r : Reads sheet at i) where
         let later = statesIn (fields rest) in
         let states : statesIn (fields sheet) ≡ statesIn (r .done) ++ (stateOf content ∷ later) =
         states-are (whole 16 content ∷ fields rest) (fields-here ∙ ap (λ (n : ℕ). whole n content ∷ fields rest) t) in
-        let byte : (j n : ℕ) → j < 2 → at + suc (suc (suc j)) ≡ n → getD sheet n 0 ≡ getD content j 0 =
-        λ j n lt q.
-        ap (λ (m : ℕ). getD sheet m 0) (sym q)
-        ∙ (sym (getD-drop at sheet (suc (suc (suc j))) 0)
-        ∙ (ap (λ (l : List ℕ). getD l (suc (suc (suc j))) 0) (bytes .2) ∙ List·getD-append content rest 0 j (omega arith))) in
-        let five : at + (3 + length content) ≡ at + 5 = omega arith in
-        let after : rest ≡ drop (at + 5) sheet = front-rest sheet at tag content rest e ∙ ap (λ (n : ℕ). drop n sheet) five in
+        let past : nextIn at (frontOf (drop at sheet)) ≡ at + (3 + length content) = ap (nextIn at) e in
+        let after : rest ≡ drop (nextIn at (frontOf (drop at sheet))) sheet = front-rest sheet at tag content rest e ∙ ap (λ (n : ℕ). drop n sheet) (sym past) in
         record {
           place = subst (λ (l : List ℕ). i < length l) (sym states) (omega (arith, length-append (statesIn (r .done)) (stateOf content ∷ later), size));
-          inside = omega (arith, front-inside sheet at tag content rest e);
-          is = ap₂ word (byte 0 (at + 3) (omega arith) (omega arith)) (byte 1 (at + 3 + 1) (omega arith) (omega arith)) ∙ sym (ap (λ (l : List ℕ). getD l i 0) states ∙ getD-at (statesIn (r .done)) (stateOf content) later 0 i size);
+          long = ap (λ (f : Front). length (contentIn f)) e ∙ two;
+          is = ap (λ (f : Front). stateOf (contentIn f)) e ∙ sym (ap (λ (l : List ℕ). getD l i 0) states ∙ getD-at (statesIn (r .done)) (stateOf content) later 0 i size);
           next =
               record {
                 preds = r .preds;
                 done = r .done ++ (whole tag content ∷ []);
-                split = r .split ∙ (ap (λ (l : List Field). r .done ++ l) (fields-here ∙ ap (λ (l : List ℕ). whole tag content ∷ fields l) after) ∙ sym (append-assoc (r .done) (whole tag content ∷ []) (fields (drop (at + 5) sheet))));
+                split = r .split ∙ (ap (λ (l : List Field). r .done ++ l) (fields-here ∙ ap (λ (l : List ℕ). whole tag content ∷ fields l) after) ∙ sym (append-assoc (r .done) (whole tag content ∷ []) (fields (drop (nextIn at (frontOf (drop at sheet))) sheet))));
                 count =
                     ap length (contentsOf-append stateTag (r .done) (whole tag content ∷ []) ∙ ap (λ (n : ℕ). contentsOf stateTag (r .done) ++ contentsOf stateTag (whole n content ∷ [])) t)
                     ∙ (length-append (contentsOf stateTag (r .done)) (content ∷ []) ∙ ap (λ (n : ℕ). n + 1) (r .count));
@@ -219,28 +200,22 @@ module _ (sheet : List ℕ) (at i : ℕ) (r : Reads sheet at i) where
         (ap (λ (n : ℕ). contentsOf stateTag (whole n content ∷ fields rest)) t
         ∙ states-over (r .preds) (r .done ++ (whole tag content ∷ [])) (fields rest) (T-of _ (sym (seen-next (r .preds) (r .done) tag content (fine .0)) ∙ eq-eqb tag 17 t)) (fine .1))
 
-  found : Looked sheet at i (stateAt sheet at)
+  found : Looked sheet at i (eqb (tagIn (frontOf (drop at sheet))) 16)
   found = go (frontOf (drop at sheet)) refl
     where
-      go : (f : Front) → frontOf (drop at sheet) ≡ f → Looked sheet at i (stateAt sheet at)
+      go : (f : Front) → frontOf (drop at sheet) ≡ f → Looked sheet at i (eqb (tagIn (frontOf (drop at sheet))) 16)
       go empty e =
-          let nothing : drop at sheet ≡ [] = subst (FrontIs (drop at sheet)) e (front-law (drop at sheet)) in
-          let past : length sheet ≤ at = omega (arith, sym (length-drop at sheet) ∙ ap length nothing) in
-          subst
-          (Looked sheet at i)
-          (sym (ap (λ (b : Bool). b && eqb (getD sheet at 0) 16) (le-ltb at (length sheet) past)))
-          (over [] (fields-step (drop at sheet) ∙ ap (onFront fields) e) refl)
+          subst (Looked sheet at i) (sym (ap (λ (f : Front). eqb (tagIn f) 16) e)) (over [] (fields-step (drop at sheet) ∙ ap (onFront fields) e) refl)
       go short e = absurd (subst (NoField (misplaced (r .preds)) (r .done)) (fields-step (drop at sheet) ∙ ap (onFront fields) e) (r .fits) .0)
       go (front tag content rest) e =
-          let w = bytes tag content rest e in
-          let first = state-first sheet at tag (w .0 ∷ w .1 ∷ content ++ rest) (w .2) in
+          let first : eqb (tagIn (frontOf (drop at sheet))) 16 ≡ eqb tag 16 = ap (λ (f : Front). eqb (tagIn f) 16) e in
           ⊎-elim
           (λ s. subst (Looked sheet at i) (sym (first ∙ eq-eqb tag 16 (s .0))) (state-here tag content rest e (s .0) (s .2)))
           (λ a. subst (Looked sheet at i) (sym (first ∙ ap (λ (t : ℕ). eqb t 16) a)) (atom-here tag content rest e a))
           (state-or-atom (r .preds) (r .done) tag content (fine tag content rest e .0))
 
-  pub state-found : stateAt sheet at ≡ true → StateHere sheet at i
-  state-found e = subst (Looked sheet at i) e found
+  pub state-found : tagIn (frontOf (drop at sheet)) ≡ 16 → StateHere sheet at i
+  state-found e = subst (Looked sheet at i) (eq-eqb (tagIn (frontOf (drop at sheet))) 16 e) found
 
-  pub none-found : stateAt sheet at ≡ false → length (statesIn (fields sheet)) ≡ i
-  none-found e = subst (Looked sheet at i) e found
+  pub none-found : (tagIn (frontOf (drop at sheet)) ≡ 16 → ⊥) → length (statesIn (fields sheet)) ≡ i
+  none-found h = subst (Looked sheet at i) (ne-eqb (tagIn (frontOf (drop at sheet))) 16 h) found

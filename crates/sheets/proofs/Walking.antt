@@ -10,7 +10,7 @@ use lib.Dec.{T}
 use lib.ListN.{length, take, drop, length-append}
 use Rattle.meaning.specs.Fields.{Field, whole, cut, frontOf, onFront, fields, firstField}
 use Rattle.meaning.proofs.Fields.{fields-step, NoField, NoField-append, first-after, firstField-none}
-use Rattle.fields.specs.Found.{foundIn}
+use Rattle.fields.specs.Found.{foundIn, contentIn}
 use Rattle.fields.specs.declared.Found.{Found}
 use Rattle.fields.specs.declared.Found.the-variants.{End, Cut, Whole}
 use Rattle.fields.proofs.Fronts.{front-rest, front-inside, front-content, found-whole, found-cut, found-end}
@@ -28,8 +28,8 @@ walked-none test sheet = record { split = refl; count = refl; fine = tt; inside 
 
 -- a whole field that was found at a position: its content and what comes after it
 pub record Stands (sheet : List ℕ) (at tag len : ℕ) : Type 0 where
-  pub size : length (take len (drop (at + 3) sheet)) ≡ len
   pub inside : at + 3 + len ≤ length sheet
+  pub content-is : contentIn (frontOf (drop at sheet)) ≡ take len (drop (at + 3) sheet)
   pub fields-are : fields (drop at sheet) ≡ whole tag (take len (drop (at + 3) sheet)) ∷ fields (drop (at + 3 + len) sheet)
 
 pub stands : (sheet : List ℕ) (at : ℕ) {f : Found} {tag len : ℕ} → f ≡ foundIn (frontOf (drop at sheet)) → f ≡ Whole tag len → Stands sheet at tag len
@@ -40,8 +40,8 @@ stands sheet at {f} {tag} {len} found is =
     let long : length (w .0) ≡ len = w .3 in
     let next : at + (3 + length (w .0)) ≡ at + 3 + len = omega arith in
     record {
-      size = sym (ap length same) ∙ w .3;
       inside = omega (arith, front-inside sheet at tag (w .0) (w .1) (w .2));
+      content-is = ap contentIn (w .2) ∙ same;
       fields-are =
           fields-step (drop at sheet)
           ∙ (ap (onFront fields) (w .2)

@@ -1,13 +1,10 @@
 // A sheet read field by field: the first field that is misplaced (10), and the first state that differs (11).
 use faults::Fault;
 use fields::Found;
-ghost use Prim.Native.Nat.{_+_, _≤_, max};
+ghost use Prim.Native.Nat.{_+_, max};
 ghost use mathlib.Core.Path.{_≡_};
-ghost use mathlib.Core.Bool.{_&&_};
-ghost use lib.Dec.{eqb, ltb};
 ghost use lib.ListN.{length, getD};
 ghost use Rattle.meaning.specs.Lists.{lowest};
-ghost use Rattle.meaning.specs.Limits.{stateTag};
 ghost use Rattle.meaning.specs.Fields.{fields, firstField, word};
 ghost use Rattle.meaning.specs.Certificates.{isAtomContent, misplaced, statesIn, differ};
 ghost use Rattle.faults.specs.Faults.{faultAt};
@@ -57,9 +54,9 @@ pub fn first_misplaced(sheet: &[u8], preds: &[u8]) -> Fault
     let mut k: usize = 0;
     let mut atoms = false;
     loop {
-        match fields::field_at(sheet, at) {
+        match reader::field_of(sheet, at) {
             Found::Whole(tag, len) => {
-                if is_misplaced(tag, fields::content(sheet, at, len), preds, atoms) {
+                if is_misplaced(tag, reader::content_of(sheet, at), preds, atoms) {
                     return Fault::At(k);
                 }
                 // no atom's field stands before a state's
@@ -73,22 +70,12 @@ pub fn first_misplaced(sheet: &[u8], preds: &[u8]) -> Fault
     }
 }
 
-// Whether a state's field starts at a position.
-fn is_state(sheet: &[u8], at: usize) -> bool
-    ensures { λ r. ⌜ r ≡ (ltb at (length (now (sheet .entry))) && eqb (getD (now (sheet .entry)) at 0) stateTag) ⌝ }
-{
-    if at < sheet.len() {
-        return sheet[at] == 16;
-    }
-    false
-}
-
 // Two bytes as a number, high byte first.
-fn word_at(sheet: &[u8], at: usize) -> u16
-    requires { ⌜ at + 2 ≤ length (now sheet) ⌝ }
-    ensures { λ r. ⌜ r ≡ word (getD (now (sheet .entry)) at 0) (getD (now (sheet .entry)) (at + 1) 0) ⌝ }
+fn word_of(content: &[u8]) -> u16
+    requires { ⌜ length (now content) ≡ 2 ⌝ }
+    ensures { λ r. ⌜ r ≡ word (getD (now (content .entry)) 0 0) (getD (now (content .entry)) 1 0) ⌝ }
 {
-    (sheet[at] as u16) * 256 + (sheet[at + 1] as u16)
+    (content[0] as u16) * 256 + (content[1] as u16)
 }
 
 // The first place where the sheet's states and the given ones differ, a missing or extra one included.
@@ -99,16 +86,16 @@ pub fn first_difference(sheet: &[u8], states: &[u16]) -> Fault
     let mut at: usize = 0;
     let mut i: usize = 0;
     while i < states.len() {
-        if !is_state(sheet, at) {
+        if reader::tag_of(sheet, at) != 16 {
             return Fault::At(i);
         }
-        if word_at(sheet, at + 3) != states[i] {
+        if word_of(reader::content_of(sheet, at)) != states[i] {
             return Fault::At(i);
         }
-        at = at + 5;
+        at = reader::next_of(sheet, at);
         i += 1;
     }
-    if is_state(sheet, at) {
+    if reader::tag_of(sheet, at) == 16 {
         return Fault::At(i);
     }
     Fault::Nowhere

@@ -432,23 +432,47 @@ fn play(folder: &[u8], rules: &mut [u8], listing: &mut [u8], way: Way)
     print_counts(folder, files, differences);
 }
 
+fn play_base() {
+    let mut rules = *b"base/000.rules";
+    let mut beside = *b"base/000.listing";
+    play(b"base", &mut rules, &mut beside, Way::Listing);
+}
+
+fn play_more() {
+    let mut rules = *b"more/000.rules";
+    let mut beside = *b"more/000.listing";
+    play(b"more", &mut rules, &mut beside, Way::Listing);
+}
+
+fn play_sets() {
+    let mut rules = *b"sets/000.rules";
+    let mut beside = *b"sets/000.states";
+    play(b"sets", &mut rules, &mut beside, Way::States);
+}
+
+fn play_full() {
+    let mut rules = *b"full/000.rules";
+    let mut beside = *b"full/000.listing";
+    play(b"full", &mut rules, &mut beside, Way::Listing);
+}
+
+fn play_pass() {
+    let mut rules = *b"pass/000.rules";
+    let mut beside = *b"pass/000.check";
+    play(b"pass", &mut rules, &mut beside, Way::Check);
+}
+
+fn play_made() {
+    let mut rules = *b"made/000.rules";
+    let mut beside = *b"made/000.sheet";
+    play(b"made", &mut rules, &mut beside, Way::Sheet);
+}
+
 fn main() {
-    let mut base_rules = *b"base/000.rules";
-    let mut base_listing = *b"base/000.listing";
-    play(b"base", &mut base_rules, &mut base_listing, Way::Listing);
-    let mut more_rules = *b"more/000.rules";
-    let mut more_listing = *b"more/000.listing";
-    play(b"more", &mut more_rules, &mut more_listing, Way::Listing);
-    let mut sets_rules = *b"sets/000.rules";
-    let mut sets_states = *b"sets/000.states";
-    play(b"sets", &mut sets_rules, &mut sets_states, Way::States);
-    let mut full_rules = *b"full/000.rules";
-    let mut full_listing = *b"full/000.listing";
-    play(b"full", &mut full_rules, &mut full_listing, Way::Listing);
-    let mut pass_rules = *b"pass/000.rules";
-    let mut pass_check = *b"pass/000.check";
-    play(b"pass", &mut pass_rules, &mut pass_check, Way::Check);
-    let mut made_rules = *b"made/000.rules";
-    let mut made_sheet = *b"made/000.sheet";
-    play(b"made", &mut made_rules, &mut made_sheet, Way::Sheet);
+    play_base();
+    play_more();
+    play_sets();
+    play_full();
+    play_pass();
+    play_made();
 }

@@ -39,8 +39,8 @@ array-share-prefix-symbols c =
     let e = x .pre .0 in
     omega (arith, c .before .wide .ensures, symbols-fit file known (accepted-read file e) (x .pre .1))
 
-slice-aggregate-long-enough : tie.Need-slice-aggregate-long-enough
-slice-aggregate-long-enough c =
+slice-aggregate-lent-enough : tie.Need-slice-aggregate-lent-enough
+slice-aggregate-lent-enough c =
     let x = c .before .before .before .before .before .before .before .before .before .before .before in
     let file = x .args .file .now in
     let known = x .args .known in
@@ -55,16 +55,16 @@ array-share-prefix-predicates c =
     let e = x .pre .0 in
     omega (arith, c .before .wide2 .ensures, predicates-fit file known e (x .pre .1))
 
-slice-aggregate-long-enough-2 : tie.Need-slice-aggregate-long-enough-2
-slice-aggregate-long-enough-2 c =
+slice-aggregate-lent-enough-2 : tie.Need-slice-aggregate-lent-enough-2
+slice-aggregate-lent-enough-2 c =
     let x = c .before .before .before .before .before .before .before .before .before .before .before .before in
     let file = x .args .file .now in
     let known = x .args .known in
     let e = x .pre .0 in
     sym (length-take-le (c .before .before .wide2 .result) (known .predicates) (omega (arith, c .before .before .wide2 .ensures, predicates-fit file known e (x .pre .1))))
 
-long-enough-requires : tie.Need-long-enough-requires
-long-enough-requires c κs =
+lent-enough-requires : tie.Need-lent-enough-requires
+lent-enough-requires c κs =
     let x = c .before .before .before .before .before .before .before .before .before .before .before .before in
     let file = x .args .file .now in
     let known = x .args .known in
@@ -80,7 +80,7 @@ long-enough-requires c κs =
     )
 
 -- the test of the lengths is meaning's
-enough : (c : tie.After-long-enough) → c .long-enough .result ≡ lentEnough (c .before .before .before .before .before .before .before .before .before .before .before .before .before .args .file .now) (record { tables = c .before .before .before .before .before .before .before .before .before .before .before .before .before .args .tables .now; marks = c .before .before .before .before .before .before .before .before .before .before .before .before .before .args .marks .now })
+enough : (c : tie.After-lent-enough) → c .lent-enough .result ≡ lentEnough (c .before .before .before .before .before .before .before .before .before .before .before .before .before .args .file .now) (record { tables = c .before .before .before .before .before .before .before .before .before .before .before .before .before .args .tables .now; marks = c .before .before .before .before .before .before .before .before .before .before .before .before .before .args .marks .now })
 enough c =
     let x = c .before .before .before .before .before .before .before .before .before .before .before .before .before in
     let file = x .args .file .now in
@@ -90,7 +90,7 @@ enough c =
     let found = x .pre .2 in
     let symbols = ap (λ (n : ℕ). take n (known .symbols)) (c .before .before .before .before .wide .ensures) in
     let preds = ap (λ (n : ℕ). take n (known .predicates)) (c .before .before .before .wide2 .ensures) in
-    c .long-enough .ensures
+    c .lent-enough .ensures
     ∙ enough-is file (x .args .sheet .now) (record { tables = x .args .tables .now; marks = x .args .marks .now }) (length (x .args .found .now)) (take (c .before .before .before .before .wide .result) (known .symbols)) (take (c .before .before .before .wide2 .result) (known .predicates))
     (ap₂ (λ (l ss : List ℕ). cells (length l) ss) found symbols ∙ sym (tables-length file known (accepted-read file e) knows))
     (ap₂ (λ (l ps : List ℕ). cells (length l) ps) found preds ∙ model-size file known e knows)
@@ -167,10 +167,10 @@ check-accepted-spec =
     array-read-wide-2
     wide-requires-2
     array-share-prefix-symbols
-    slice-aggregate-long-enough
+    slice-aggregate-lent-enough
     array-share-prefix-predicates
-    slice-aggregate-long-enough-2
-    long-enough-requires
+    slice-aggregate-lent-enough-2
+    lent-enough-requires
     array-share-prefix-symbols-2
     slice-aggregate-check-sheet
     array-share-prefix-predicates-2

@@ -25,18 +25,18 @@ loop-holds c =
     let a = c .before .before .before .before .args in
     ([], reached-none (a .m) (a .preds .now) (a .sheet .now) (c .before .before .before .before .pre .2))
 
-shared-slice-read-if1 : tie.Need-shared-slice-read-if1 Inv-loop μ-loop
-shared-slice-read-if1 c = omega arith
+tag-of-requires : tie.Need-tag-of-requires Inv-loop μ-loop
+tag-of-requires c κs = tt
 
-content-at-requires : tie.Need-content-at-requires Inv-loop μ-loop
-content-at-requires c κs = tt
+content-of-requires : tie.Need-content-of-requires Inv-loop μ-loop
+content-of-requires c κs = tt
 
 mark-requires : tie.Need-mark-requires Inv-loop μ-loop
 mark-requires c κs =
     let a = c .before .before .before .before .before .before .before .before .before .before .args in
     let h = c .before .before .before .before .before .before .before .before .before .before .pre in
     let l = c .before .before .before .before .before .loop in (
-      subst (λ (content : List ℕ). T (isAtomContent (a .preds .now) content)) (sym (c .before .content-at .ensures .0)) (atom-here (a .m) (a .preds .now) (a .sheet .now) (l .inv .1) (h .0) (omega arith) (c .before .before .if1 .taken)),
+      subst (λ (content : List ℕ). T (isAtomContent (a .preds .now) content)) (sym (c .before .content-of .ensures .0)) (atom-here (a .m) (a .preds .now) (a .sheet .now) (l .inv .1) (h .0) (omega arith) (sym (c .before .before .before .tag-of .ensures) ∙ c .before .before .if1 .taken)),
       h .1,
       l .inv .1 .holding .size,
     )
@@ -46,15 +46,15 @@ returns c =
     let a = c .before .before .before .before .before .before .before .before .before .before .before .before .before .before .args in
     let h = c .before .before .before .before .before .before .before .before .before .before .before .before .before .before .pre in
     let l = c .before .before .before .before .before .before .before .before .before .loop in
-    stop-wrong (a .m) (a .preds .now) (a .sheet .now) (l .inv .1) (h .0) (omega arith) (c .before .before .before .before .before .before .if1 .taken) (c .before .before .before .before .before .content-at .ensures .0) (c .before .before .before .mark .ensures .0) (c .before .before .before .mark .ensures .1) (not-true _ (c .if2 .taken))
+    stop-wrong (a .m) (a .preds .now) (a .sheet .now) (l .inv .1) (h .0) (omega arith) (sym (c .before .before .before .before .before .before .before .tag-of .ensures) ∙ c .before .before .before .before .before .before .if1 .taken) (c .before .before .before .before .before .content-of .ensures .0) (c .before .before .before .mark .ensures .0) (c .before .before .before .mark .ensures .1) (not-true _ (c .if2 .taken))
 
 same-length : tie.Need-same-length Inv-loop μ-loop
 same-length c =
     let a = c .before .before .before .before .before .before .before .before .before .before .before .before .before .before .args in
     returns c .1 .0 ∙ sym (size-before (a .m) (a .preds .now) (a .sheet .now) (c .before .before .before .before .before .before .before .before .before .before .before .before .before .before .pre .2))
 
-next-at-requires : tie.Need-next-at-requires Inv-loop μ-loop
-next-at-requires c κs = tt
+next-of-requires : tie.Need-next-of-requires Inv-loop μ-loop
+next-of-requires c κs = tt
 
 add-k : tie.Need-add-k Inv-loop μ-loop
 add-k c =
@@ -68,7 +68,7 @@ loop-less c =
     let a = c .before .before .before .before .before .before .before .before .before .args in
     let h = c .before .before .before .before .before .before .before .before .before .pre in
     let l = c .before .before .before .before .loop in
-    omega (arith, c .next-at .ensures, next-past (a .m) (a .preds .now) (a .sheet .now) (l .inv .1) (h .0) (omega arith))
+    omega (arith, c .next-of .ensures, next-past (a .m) (a .preds .now) (a .sheet .now) (l .inv .1) (h .0) (omega arith))
 
 loop-again : tie.Need-loop-again Inv-loop μ-loop
 loop-again c =
@@ -76,8 +76,8 @@ loop-again c =
     let h = c .before .before .before .before .before .before .before .before .before .pre in
     let l = c .before .before .before .before .loop in
     ⊎-elim
-    (λ w. turn-atom (a .m) (a .preds .now) (a .sheet .now) (l .inv .1) (h .0) (omega arith) (w .0 .taken) (w .1 .ensures .0) (w .3 .ensures .0) (w .7 ∙ w .3 .ensures .1) (c .next-at .ensures) (not-false _ (w .6 .left)))
-    (λ w. turn-other (a .m) (a .preds .now) (a .sheet .now) (l .inv .1) (h .0) (omega arith) (c .next-at .ensures) (w .0 .left) (w .1))
+    (λ w. turn-atom (a .m) (a .preds .now) (a .sheet .now) (l .inv .1) (h .0) (omega arith) (sym (c .before .before .tag-of .ensures) ∙ w .0 .taken) (w .1 .ensures .0) (w .3 .ensures .0) (w .7 ∙ w .3 .ensures .1) (c .next-of .ensures) (not-false _ (w .6 .left)))
+    (λ w. turn-other (a .m) (a .preds .now) (a .sheet .now) (l .inv .1) (h .0) (omega arith) (c .next-of .ensures) (λ e. w .0 .left (c .before .before .tag-of .ensures ∙ e)) (w .1))
     (c .before .if1 .came)
 
 same-length-2 : tie.Need-same-length-2 Inv-loop μ-loop
@@ -98,12 +98,12 @@ mark-atoms-spec =
     Inv-loop
     μ-loop
     loop-holds
-    shared-slice-read-if1
-    content-at-requires
+    tag-of-requires
+    content-of-requires
     mark-requires
     same-length
     returns
-    next-at-requires
+    next-of-requires
     add-k
     loop-less
     loop-again

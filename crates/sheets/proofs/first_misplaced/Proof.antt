@@ -25,7 +25,7 @@ abbrev μ-loop : tie.MeasureT-loop
 
 -- the field that was found
 stand : (c : tie.After-known-told Inv-loop μ-loop) → Stands (c .before .before .before .before .before .before .before .args .sheet .now) (c .before .before .before .before .loop .at) (c .before .tag .given .0 .0) (c .before .tag .given .0 .1 .0)
-stand c = stands (c .before .before .before .before .before .before .before .args .sheet .now) (c .before .before .before .before .loop .at) (c .before .before .before .field-at .ensures) (c .before .tag .given .1)
+stand c = stands (c .before .before .before .before .before .before .before .args .sheet .now) (c .before .before .before .before .loop .at) (c .before .before .before .field-of .ensures) (c .before .tag .given .1)
 
 -- what was said of it
 said : (c : tie.After-is-misplaced Inv-loop μ-loop)
@@ -33,19 +33,19 @@ said : (c : tie.After-is-misplaced Inv-loop μ-loop)
     ≡ misplaced (c .before .before .before .before .before .before .before .before .before .args .preds .now) (c .before .before .before .before .before .before .loop .inv .0) (whole (c .before .before .before .tag .given .0 .0) (take (c .before .before .before .tag .given .0 .1 .0) (drop (c .before .before .before .before .before .before .loop .at + 3) (c .before .before .before .before .before .before .before .before .before .args .sheet .now))))
 said c =
     c .is-misplaced .ensures
-    ∙ ap₂ (λ (b : Bool) (l : List ℕ). misplacedAfter (c .before .before .before .before .before .before .before .before .before .args .preds .now) b (c .before .before .before .tag .given .0 .0) l) (c .before .before .before .before .before .before .loop .inv .2) (c .before .content .ensures .0)
+    ∙ ap₂ (λ (b : Bool) (l : List ℕ). misplacedAfter (c .before .before .before .before .before .before .before .before .before .args .preds .now) b (c .before .before .before .tag .given .0 .0) l) (c .before .before .before .before .before .before .loop .inv .2) (c .before .content-of .ensures .0 ∙ stand (c .before .before) .content-is)
 
 loop-holds : tie.Need-loop-holds Inv-loop μ-loop
 loop-holds c = ([], walked-none (misplaced (c .before .before .args .preds .now)) (c .before .before .args .sheet .now), refl)
 
-field-at-requires : tie.Need-field-at-requires Inv-loop μ-loop
-field-at-requires c κs = search needs
+field-of-requires : tie.Need-field-of-requires Inv-loop μ-loop
+field-of-requires c κs = search needs
 
 enum-known-tag : tie.Need-enum-known-tag Inv-loop μ-loop
 enum-known-tag c = search needs
 
-content-requires : tie.Need-content-requires Inv-loop μ-loop
-content-requires c κs = stand c .inside
+content-of-requires : tie.Need-content-of-requires Inv-loop μ-loop
+content-of-requires c κs = search needs
 
 is-misplaced-requires : tie.Need-is-misplaced-requires Inv-loop μ-loop
 is-misplaced-requires c κs = search needs
@@ -75,13 +75,13 @@ enum-told : tie.Need-enum-told Inv-loop μ-loop
 enum-told c = search needs
 
 returns-2 : tie.Need-returns-2 Inv-loop μ-loop
-returns-2 c = ap faultAt (sym (walk-cut (c .before .before .before .loop .inv .1) (c .before .before .field-at .ensures) (c .enum-told .given .1) tt))
+returns-2 c = ap faultAt (sym (walk-cut (c .before .before .before .loop .inv .1) (c .before .before .field-of .ensures) (c .enum-told .given .1) tt))
 
 enum-told-2 : tie.Need-enum-told-2 Inv-loop μ-loop
 enum-told-2 c = search needs
 
 returns-3 : tie.Need-returns-3 Inv-loop μ-loop
-returns-3 c = ap faultAt (sym (walk-end (c .before .before .before .loop .inv .1) (c .before .before .field-at .ensures) (c .enum-told2 .given .1)))
+returns-3 c = ap faultAt (sym (walk-end (c .before .before .before .loop .inv .1) (c .before .before .field-of .ensures) (c .enum-told2 .given .1)))
 
 pub first-misplaced-spec : {M : Type 1} → statement M
 first-misplaced-spec =
@@ -90,9 +90,9 @@ first-misplaced-spec =
     Inv-loop
     μ-loop
     loop-holds
-    field-at-requires
+    field-of-requires
     enum-known-tag
-    content-requires
+    content-of-requires
     is-misplaced-requires
     returns
     add-at

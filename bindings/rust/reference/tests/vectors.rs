@@ -1,0 +1,81 @@
+//! Plays the vectors of the repository, `crates/vectors/data`; their formats are in
+//! `crates/vectors/README.md`.
+
+use reference::{check, listing, write, Accepted, Answer, Buffers};
+use std::fs;
+use std::path::{Path, PathBuf};
+
+fn data(folder: &str) -> PathBuf {
+    Path::new(env!("CARGO_MANIFEST_DIR"))
+        .join("../../../crates/vectors/data")
+        .join(folder)
+}
+
+/// The rule files of a folder, each with the file beside it of the other extension.
+fn pairs(folder: &str, other: &str) -> Vec<(String, Vec<u8>, Vec<u8>)> {
+    let mut paths: Vec<PathBuf> = fs::read_dir(data(folder))
+        .expect("a folder of vectors")
+        .map(|entry| entry.expect("an entry").path())
+        .filter(|path| path.extension().is_some_and(|end| end == "rules"))
+        .collect();
+    paths.sort();
+    assert!(!paths.is_empty());
+    paths
+        .into_iter()
+        .map(|path| {
+            let bytes = |path: &Path| fs::read(path).expect("a vector");
+            let name = path.display().to_string();
+            (name, bytes(&path), bytes(&path.with_extension(other)))
+        })
+        .collect()
+}
+
+#[test]
+fn listings() {
+    for folder in ["base", "full", "more"] {
+        for (name, rules, text) in pairs(folder, "listing") {
+            assert_eq!(listing(&rules).as_bytes(), text, "{name}");
+        }
+    }
+}
+
+#[test]
+fn states_and_tables() {
+    for (name, rules, expected) in pairs("sets", "states") {
+        let automaton = Accepted::of(&rules).expect("an accepted file").automaton;
+        let mut bytes: Vec<u8> = (automaton.states.iter())
+            .flat_map(|state| state.to_be_bytes())
+            .collect();
+        bytes.extend(automaton.tables.concat());
+        assert_eq!(bytes, expected, "{name}");
+    }
+}
+
+#[test]
+fn written_sheets() {
+    for (name, rules, expected) in pairs("made", "sheet") {
+        let mut sheet = vec![0; 1 << 20];
+        let buffers = Buffers {
+            states: &mut [0; 16],
+            tables: &mut [0; 6_144],
+            marks: &mut [0; 65_536],
+            verdicts: &mut [0; 32],
+        };
+        let answer = write(&rules, buffers, &mut sheet);
+        assert_eq!(answer.number, 0, "{name}");
+        assert_eq!(sheet[..answer.bytes], expected, "{name}");
+    }
+}
+
+#[test]
+fn checked_sheets() {
+    for (name, rules, expected) in pairs("pass", "check") {
+        let answer = check(&rules, &expected[3..], &mut [0; 6_144], &mut [0; 65_536]);
+        let due = Answer {
+            number: expected[0].into(),
+            place: u16::from_be_bytes([expected[1], expected[2]]).into(),
+            ..Answer::default()
+        };
+        assert_eq!(answer, due, "{name}");
+    }
+}
