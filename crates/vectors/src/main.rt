@@ -1,20 +1,17 @@
-// Plays the rule files of data/, each with what stands beside it, and compares: of the folders base, more and full the listing, of sets the states and the
-// tables, of pass the answer to a sheet, and of made the sheet that is written.
+// Plays the rule files of data/, each with what stands beside it, and compares: of the folders base, more and full the listing, of sets and pass the answer
+// to a sheet and the tables, and of made the sheet that is written.
 // Prints a line for each difference, and the counts of each folder.
-use accept::Answer;
 use libc::STDOUT_FILENO;
 use refusals::Known;
-use states::Count;
 ghost use Prim.Native.Nat.{_+_, _*_, _≤_, _<_, _-_};
 ghost use mathlib.Core.Path.{_≡_};
 ghost use mathlib.Core.Bool.{true, not, _&&_};
 ghost use lib.Dec.{eqb};
-ghost use lib.ListN.{length, getD, take};
+ghost use lib.ListN.{length, getD};
 ghost use Rattle.meaning.specs.Lists.{same};
 ghost use Rattle.meaning.specs.Fields.{word};
-ghost use Rattle.meaning.specs.Refusals.{accepted, refused};
-ghost use Rattle.meaning.specs.Files.{fileAnswer};
-ghost use Rattle.meaning.specs.Calls.{statesOf, roundsOf, atomsOf};
+ghost use Rattle.meaning.specs.Refusals.{refused};
+ghost use Rattle.meaning.specs.Calls.{roundsOf, atomsOf};
 ghost use Rattle.refusals.specs.Known.{Knows, fieldsRead};
 ghost use Rattle.lines.specs.Lines.{refusedLine};
 ghost use Rattle.lines.specs.Listing.{listing, Results};
@@ -24,11 +21,9 @@ ghost use Rattle.vectors.specs.Paths.{numbered};
 
 // What of a file is compared with what stands beside it.
 pub enum Way {
-    // The states and the tables.
-    States,
     // The whole listing.
     Listing,
-    // The answer to a sheet that is offered.
+    // The answer to a sheet that is offered, and the tables.
     Check,
     // The sheet that is written.
     Sheet,
@@ -59,77 +54,6 @@ fn print_counts(folder: &[u8], files: usize, differences: usize) {
     print(b" files, ");
     io::print_decimal(STDOUT_FILENO, differences as u64);
     print(b" differences\n");
-}
-
-fn wide_set(s: u16) -> usize
-    ensures { λ r. ⌜ r ≡ s ⌝ }
-{
-    s as usize
-}
-
-// Whether some bytes are the states, two bytes each, high byte first.
-fn are_states(states: &[u16], bytes: &[u8]) -> bool
-    requires { ⌜ length (now bytes) ≡ 2 * length (now states) ⌝ }
-{
-    let mut i = 0;
-    while i < states.len() {
-        let state = wide_set(states[i]);
-        if wide(bytes[2 * i]) != state / 256 {
-            return false;
-        }
-        if wide(bytes[2 * i + 1]) != state % 256 {
-            return false;
-        }
-        i += 1;
-    }
-    true
-}
-
-// Whether some bytes are the states of a file and then its tables. No cell is 255, so that no cell more is written than is expected.
-fn are_tables(file: &[u8], known: Known, sets: [u16; 16], m: usize, expected: &[u8]) -> bool
-    requires { ⌜ (fileAnswer (now file) ≡ accepted) × Knows known (fieldsRead (now file)) × (take m sets ≡ statesOf (now file)) × (m ≤ 16) ⌝ }
-{
-    let states = sets;
-    let mut tables = [255u8; 6144];
-    accept::write_tables(&mut tables, file, known, &states[..m]);
-    let from = 2 * m;
-    if expected.len() < from {
-        return false;
-    }
-    let size = expected.len() - from;
-    if 6143 < size {
-        return false;
-    }
-    if tables[size] != 255 {
-        return false;
-    }
-    if !are_states(&states[..m], &expected[..from]) {
-        return false;
-    }
-    names::same(&tables[..size], &expected[from..])
-}
-
-// Whether a rule file is accepted, with the states and tables expected; if not, that is printed.
-fn compare_states(path: &[u8], file: &[u8], expected: &[u8]) -> bool {
-    let accepted = accept::accept(file);
-    let answer = accepted.answer;
-    let known = accepted.known;
-    let states = accepted.states;
-    if answer.number == 0 {
-        let count = states.count;
-        match count {
-            Count::Known(m) => {
-                let sets = states.sets;
-                if are_tables(file, known, sets, m, expected) {
-                    return true;
-                }
-            }
-            Count::TooMany => {}
-        }
-    }
-    print(path);
-    print(b": other states or tables\n");
-    false
 }
 
 // Whether some bytes stand in a listing at a place.
@@ -285,27 +209,47 @@ fn compare_listing(path: &[u8], file: &[u8], expected: &[u8]) -> bool
     false
 }
 
-// Whether an answer is the one that three bytes say: its number, and its place in two, high byte first.
-fn is_answer(answer: Answer, expected: &[u8]) -> bool
-    requires { ⌜ 3 ≤ length (now expected) ⌝ }
-    ensures { λ r. ⌜ r ≡ (eqb (answer .number) (getD (now (expected .entry)) 0 0) && eqb (answer .place) (word (getD (now (expected .entry)) 1 0) (getD (now (expected .entry)) 2 0))) ⌝ }
+// Two bytes as a number, high byte first.
+fn word_at(s: &[u8], at: usize) -> usize
+    requires { ⌜ at + 2 ≤ length (now s) ⌝ }
+    ensures { λ r. ⌜ (r ≡ word (getD (now (s .entry)) at 0) (getD (now (s .entry)) (at + 1) 0)) × (r < 65536) ⌝ }
 {
-    let place = wide(expected[1]) * 256 + wide(expected[2]);
-    (answer.number == wide(expected[0])) & (answer.place == place)
+    wide(s[at]) * 256 + wide(s[at + 1])
 }
 
-// Whether a sheet, which stands after three bytes that say the answer to it, is answered so; if not, that is printed.
+// Whether a file's tables are in a buffer, and a sheet for it is answered as expected. What is expected stands before the sheet: the answer's number, its
+// place in two bytes, how many table cells there are in two, and these.
+fn is_checked(file: &[u8], expected: &[u8], tables: &mut [u8], marks: &mut [u8]) -> bool {
+    if expected.len() < 5 {
+        return false;
+    }
+    let size = word_at(expected, 3);
+    let from = 5 + size;
+    if expected.len() < from {
+        return false;
+    }
+    if tables.len() < size {
+        return false;
+    }
+    let answer = certificate::check(file, &expected[from..], tables, marks);
+    if answer.number != wide(expected[0]) {
+        return false;
+    }
+    if answer.place != word_at(expected, 1) {
+        return false;
+    }
+    names::same(&tables[..size], &expected[5..from])
+}
+
+// Whether a sheet is answered, and the tables written, as expected; if not, that is printed.
 fn compare_check(path: &[u8], file: &[u8], expected: &[u8]) -> bool {
     let mut tables = [0u8; 6144];
     let mut marks = [0u8; 8192];
-    if 3 <= expected.len() {
-        let answer = certificate::check(file, &expected[3..], &mut tables, &mut marks);
-        if is_answer(answer, expected) {
-            return true;
-        }
+    if is_checked(file, expected, &mut tables, &mut marks) {
+        return true;
     }
     print(path);
-    print(b": other answer to the sheet\n");
+    print(b": other answer to the sheet, or other tables\n");
     false
 }
 
@@ -359,7 +303,6 @@ fn compare_sheet(path: &[u8], file: &[u8], expected: &[u8]) -> bool
 // By one of the ways.
 fn compare_by(way: Way, path: &[u8], file: &[u8], beside: &[u8]) -> bool {
     match way {
-        Way::States => compare_states(path, file, beside),
         Way::Listing => compare_listing(path, file, beside),
         Way::Check => compare_check(path, file, beside),
         Way::Sheet => compare_sheet(path, file, beside),
@@ -446,8 +389,8 @@ fn play_more() {
 
 fn play_sets() {
     let mut rules = *b"sets/000.rules";
-    let mut beside = *b"sets/000.states";
-    play(b"sets", &mut rules, &mut beside, Way::States);
+    let mut beside = *b"sets/000.check";
+    play(b"sets", &mut rules, &mut beside, Way::Check);
 }
 
 fn play_full() {
