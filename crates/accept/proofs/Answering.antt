@@ -14,7 +14,7 @@ use Rattle.meaning.specs.Refusals.{Answer, refused, accepted, ok}
 use Rattle.meaning.specs.Files.{readAnswer, fileAnswer}
 use Rattle.meaning.specs.Calls.{statesOf, symbolArities}
 use Rattle.meaning.proofs.Lists.{T-of, T-not-of}
-use Rattle.meaning.proofs.Answers.{then-next, then-first, if-yes, if-no, read-accepted, accepted-exact}
+use Rattle.meaning.proofs.Answers.{then-next, then-first, if-yes, if-no}
 use Rattle.refusals.specs.declared.Verdict.{Verdict}
 use Rattle.refusals.specs.declared.Verdict.the-variants.{Accepted, TooLong, Cut, WrongTag, Malformed, NameTaken, TooMany, NoConstant}
 use Rattle.refusals.specs.Verdict.{answerOf}
@@ -58,11 +58,3 @@ module _ (file : List ℕ) where
   many-answer e h =
       then-next (readAnswer file) _ (ap (λ (a : Answer). a .number) e)
       ∙ if-yes (ltb mostStates (length (statesOf file))) 8 (length (fields file)) (T-of _ (lt-ltb mostStates (length (statesOf file)) h))
-
-  -- an accepted file is read, and its states are few
-  pub accepted-read : fileAnswer file ≡ accepted → readAnswer file ≡ accepted
-  accepted-read e = let w = accepted-exact file .0 e in read-accepted file .1 (w .0, w .1)
-
-  pub accepted-few : fileAnswer file ≡ accepted → length (statesOf file) ≤ mostStates
-  unfolding statesOf symbolArities
-  accepted-few e = accepted-exact file .0 e .2

@@ -1,13 +1,12 @@
 -- How an analysis ends: refused with 1 to 8, with 9, or done. Assumes nothing.
-use Prim.Native.Nat.{ℕ, _-_, _≤_}
+use Prim.Native.Nat.{ℕ, _≤_}
 use mathlib.Core.Path.{_≡_, sym, ap, _∙_}
 use mathlib.Core.Logic.{_≢_}
 use mathlib.Core.Bool.{Bool, true, false, not, _&&_}
 use mathlib.Core.List.{List}
 use native.Mathlib.Omega.{arith}
 use lib.Dec.{T, leb, leb→le}
-use lib.ListN.{length, replicate, length-append}
-use Rattle.meaning.specs.Limits.{mostStates}
+use lib.ListN.{length}
 use Rattle.meaning.specs.Cells.{cells}
 use Rattle.meaning.specs.Refusals as meant
 use Rattle.meaning.specs.Files.{fileAnswer}
@@ -17,10 +16,6 @@ use Rattle.meaning.proofs.Answers.{then-first, then-next}
 use Rattle.meaning.proofs.Calls.{analysis-refused, analysis-filled}
 use Rattle.accept.specs.declared.Answer.{Answer}
 use Rattle.accept.specs.Accepted.{answered}
-use Rattle.states.specs.declared.States.{States}
-use Rattle.states.specs.declared.Count.the-variants.{Known}
-use Rattle.states.specs.Packed.{packed, padded}
-use Rattle.states.proofs.Packed.{known-is}
 use Rattle.analysis.specs.Given.{given, noCounts, analysisDone}
 
 module _ (file : List ℕ) (before : Buffers) where
@@ -82,10 +77,3 @@ module _ (file : List ℕ) (before : Buffers) where
       let v = both (a && b) c (u .0) in
       let w = both a b (v .0) in
       (leb→le _ _ (w .0), leb→le _ _ (w .1), leb→le _ _ (v .1), leb→le _ _ (u .1))
-
--- the states that were found stand in their array
-pub sets-fit : {r : States} (l : List ℕ) {k : ℕ} → r ≡ packed l → r .count ≡ Known k → k ≤ length (r .sets)
-unfolding padded
-sets-fit l e f =
-    let w = known-is l e f in
-    omega (arith, w .0, ap length (w .2), length-append l (replicate (mostStates - length l) 0))

@@ -9,7 +9,7 @@ use Rattle.meaning.specs.Cells.{cells}
 use Rattle.meaning.specs.Calls.{statesOf, modelOf, verdictsOf}
 use Rattle.refusals.specs.declared.Known.{Known}
 use Rattle.refusals.specs.Known.{Knows, fieldsRead}
-use Rattle.accept.proofs.Answering.{accepted-few}
+use Rattle.rules.proofs.Limits.{accepted-few}
 use Rattle.analysis.specs.Given.{Filled}
 use Rattle.results.proofs.Handed.{few-predicates, fit-predicates, model-size, verdicts-needed, predicates-fit}
 

@@ -9,7 +9,7 @@ use Rattle.meaning.specs.Cells.{cells}
 use Rattle.meaning.specs.Calls.{statesOf, modelOf, atomsOf, Buffers, analysed}
 use Rattle.refusals.specs.declared.Known.{Known}
 use Rattle.refusals.specs.Known.{Knows, fieldsRead}
-use Rattle.accept.proofs.Limits.{predicates-known, states-some}
+use Rattle.rules.proofs.Limits.{predicates-known, states-some}
 use Rattle.results.proofs.Fronts.{holds-room, holds-first}
 use Rattle.results.proofs.Handed.{few-predicates, narrow-predicates}
 use Rattle.analysis.specs.declared.Analysis.{Analysis}

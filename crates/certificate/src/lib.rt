@@ -1,7 +1,6 @@
 // Certificates (01: sheets): one written for a rule file, and one checked, whoever wrote it.
 use accept::Answer;
 use refusals::Known;
-use states::Count;
 ghost use Prim.Native.Nat.{_≤_};
 ghost use mathlib.Core.Path.{_≡_};
 ghost use lib.ListN.{length};
@@ -110,23 +109,18 @@ pub fn write(
     }
     let known = acceptance.known;
     let found = acceptance.states;
-    let count = found.count;
-    match count {
-        Count::Known(m) => {
-            let sets = found.sets;
-            write_accepted(
-                file,
-                known,
-                &sets[..m],
-                states,
-                tables,
-                marks,
-                verdicts,
-                sheet,
-            )
-        }
-        Count::TooMany => refused(first),
-    }
+    let m = states::count_of(found);
+    let sets = found.sets;
+    write_accepted(
+        file,
+        known,
+        &sets[..m],
+        states,
+        tables,
+        marks,
+        verdicts,
+        sheet,
+    )
 }
 
 // Checks a sheet for a file. Nothing is written before 1 to 9 are ruled out.
@@ -140,12 +134,7 @@ pub fn check(file: &[u8], sheet: &[u8], tables: &mut [u8], marks: &mut [u8]) -> 
     }
     let known = acceptance.known;
     let found = acceptance.states;
-    let count = found.count;
-    match count {
-        Count::Known(m) => {
-            let sets = found.sets;
-            checking::check_accepted(file, sheet, known, &sets[..m], tables, marks)
-        }
-        Count::TooMany => refusal,
-    }
+    let m = states::count_of(found);
+    let sets = found.sets;
+    checking::check_accepted(file, sheet, known, &sets[..m], tables, marks)
 }

@@ -26,7 +26,7 @@ use Rattle.refusals.specs.declared.Known.{Known}
 use Rattle.refusals.specs.Tests.{earlierIn}
 use Rattle.accept.specs.declared.Answer.{Answer}
 use Rattle.accept.specs.Accepted.{answered}
-use Rattle.accept.proofs.Limits.{predicates-known}
+use Rattle.rules.proofs.Limits.{predicates-known}
 use Rattle.instances.specs.Partial.{lookUp}
 use Rattle.model.specs.Rounds.{clausesIn}
 use Rattle.results.specs.Handed.{Handed}

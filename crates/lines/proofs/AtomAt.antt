@@ -18,8 +18,7 @@ use Rattle.refusals.specs.Known.{Knows, fieldsRead}
 use Rattle.lines.specs.Lines.{namedText}
 use Rattle.lines.specs.Listing.{atomLine}
 use Rattle.lines.proofs.Sizes.{named-short}
-use Rattle.accept.proofs.Answering.{accepted-few}
-use Rattle.accept.proofs.Limits.{predicates-small, states-some}
+use Rattle.rules.proofs.Limits.{accepted-few, predicates-small, states-some}
 use Rattle.lines.proofs.Found.{arity-known, NameIn, predicate-name}
 
 -- the first of a row's places, and a content without its first byte

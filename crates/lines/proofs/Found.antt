@@ -22,8 +22,7 @@ use Rattle.refusals.specs.Known.{Knows, fieldsRead}
 use Rattle.fields.specs.Found.{nthIn}
 use Rattle.rules.proofs.Whole.{nth-earlier, reads}
 use Rattle.cells.proofs.Segments.{start-all, start-most}
-use Rattle.accept.proofs.Answering.{accepted-read, accepted-few}
-use Rattle.accept.proofs.Limits.{fields-well, arities-are, arities-length, predicates-few, predicates-small, all-known}
+use Rattle.rules.proofs.Limits.{accepted-read, accepted-few, fields-well, arities-are, arities-length, predicates-few, predicates-small, all-known}
 use Rattle.meaning.proofs.Calls.{marks-length}
 
 -- a name has at most 8 bytes

@@ -31,8 +31,7 @@ use Rattle.refusals.specs.Known.{Knows, fieldsRead}
 use Rattle.refusals.specs.Tests.{knownTypes, knownSymbols, knownPredicates, earlierIn}
 use Rattle.refusals.proofs.Knowing.{count-of, known-types, known-symbols, known-predicates}
 use Rattle.rules.proofs.Whole.{well, knows-all, earlier, reads}
-use Rattle.accept.proofs.Answering.{accepted-read, accepted-few}
-use Rattle.accept.proofs.Limits.{predicates-few, predicates-small, states-some, predicates-known, predicates-count, predicates-length}
+use Rattle.rules.proofs.Limits.{accepted-read, accepted-few, predicates-few, predicates-small, states-some, predicates-known, predicates-count, predicates-length}
 use Rattle.accept.proofs.Ready.{limited}
 use Rattle.instances.specs.Partial.{lookUp, Setting}
 use Rattle.instances.proofs.Tables.{lookUp-tables, range-states}

@@ -14,7 +14,7 @@ use Rattle.meaning.specs.Calls.{statesOf, interpretationOf, tablesOf, roundsOf,
 use Rattle.meaning.proofs.Lists.{All-map}
 use Rattle.refusals.specs.declared.Known.{Known}
 use Rattle.refusals.specs.Tests.{knownTypes, knownSymbols, knownPredicates, earlierIn}
-use Rattle.accept.proofs.Answering.{accepted-read, accepted-few}
+use Rattle.rules.proofs.Limits.{accepted-read, accepted-few}
 use Rattle.accept.proofs.Ready.{limited}
 use Rattle.instances.specs.Partial.{lookUp}
 use Rattle.model.specs.Rounds.{clausesIn, Modelling}

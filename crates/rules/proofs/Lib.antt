@@ -4,3 +4,4 @@ pub mod Turns
 pub mod Constants
 pub mod Sizes
 pub mod Whole
+pub mod Limits

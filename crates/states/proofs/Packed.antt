@@ -10,7 +10,7 @@ use lib.ListN.{length, take, drop, replicate, length-append, length-take, length
 use lib.Seq.{take-append-le, drop-append-le, drop-append-add, take-at}
 use borrow.Author.Tests.{le-leb, lt-leb, leb-true, leb-false}
 use Rattle.meaning.specs.Limits.{mostStates}
-use Rattle.states.specs.Packed.{putAt, padded, Holds, packed, tooMany}
+use Rattle.states.specs.Packed.{putAt, padded, Holds, packed, tooMany, countOf}
 use Rattle.states.specs.declared.Count.the-variants.{Known, TooMany}
 use Rattle.states.specs.declared.States.{States}
 
@@ -90,8 +90,20 @@ known-is {r} l {k} e f = go (leb (length l) mostStates) refl e
         let z : _≡_ {A = ℕ} 0 1 = cc in
         absurd (omega arith)
 
-pub known-sets : {r : States} (l : List ℕ) {k : ℕ} → r ≡ packed l → r .count ≡ Known k → take k (r .sets) ≡ l
-known-sets l {k} e f = let w = known-is l e f in ap (take k) (w .2) ∙ take-padded l k (w .0)
+-- the first numbers of the array are those of the list
+module _ {r : States} (l : List ℕ) (few : length l ≤ mostStates) (e : r ≡ packed l) where
+  pub count-is : countOf r ≡ length l
+  count-is = ap countOf (e ∙ packed-known l few)
+
+  sets-are : r .sets ≡ padded l
+  sets-are = ap (λ (x : States). x .sets) (e ∙ packed-known l few)
+
+  pub count-fits : countOf r ≤ length (r .sets)
+  unfolding padded
+  count-fits = omega (arith, count-is, ap length sets-are, length-append l (replicate (mostStates - length l) 0))
+
+  pub counted-sets : take (countOf r) (r .sets) ≡ l
+  counted-sets = ap (take (countOf r)) sets-are ∙ take-padded l (countOf r) count-is
 
 pub many-is : {r : States} (l : List ℕ) → r ≡ packed l → r .count ≡ TooMany → (mostStates < length l) × (r ≡ tooMany)
 unfolding packed

@@ -7,6 +7,7 @@ use lib.Dec.{leb}
 use lib.ListN.{length, take, drop, replicate}
 use Rattle.meaning.specs.Limits.{mostStates}
 use Rattle.meaning.specs.States.{indexOf}
+use Rattle.states.specs.declared.Count.{Count}
 use Rattle.states.specs.declared.Count.the-variants.{Known, TooMany}
 use Rattle.states.specs.declared.States.{States}
 
@@ -34,6 +35,14 @@ tooMany = record { count = TooMany; sets = replicate mostStates 0 }
 
 unfoldable pub packed : List ℕ → States
 packed l = cond (leb (length l) mostStates) (record { count = Known (length l); sets = padded l }) tooMany
+
+-- how many numbers there are, 0 where there are too many
+abbrev counted : Count → ℕ
+counted (Known n) = n
+counted TooMany = 0
+
+abbrev pub countOf : States → ℕ
+countOf r = counted (r .count)
 
 -- the numbers of some sets among the states
 unfoldable pub indices : List ℕ → List ℕ → List ℕ

@@ -11,7 +11,7 @@ ghost use Rattle.meaning.specs.Files.{statesFor};
 ghost use Rattle.fields.specs.Found.{contentsFrom};
 ghost use Rattle.automaton.specs.Marking.{AreProductions};
 ghost use Rattle.states.specs.Asked.{Limited, productionsAt};
-ghost use Rattle.states.specs.Packed.{placeFor, putAt, Holds, packed, tooMany, indices};
+ghost use Rattle.states.specs.Packed.{placeFor, putAt, Holds, packed, tooMany, countOf, indices};
 
 // The most states.
 const MOST: usize = 16;
@@ -29,6 +29,17 @@ pub enum Count {
 pub struct States {
     pub count: Count,
     pub sets: [u16; MOST],
+}
+
+// How many states there are; 0 where they are too many.
+pub fn count_of(states: States) -> usize
+    ensures { λ r. ⌜ r ≡ countOf states ⌝ }
+{
+    let count = states.count;
+    match count {
+        Count::Known(n) => n,
+        Count::TooMany => 0,
+    }
 }
 
 // The first place with a number that is not below s.

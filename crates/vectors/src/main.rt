@@ -381,18 +381,6 @@ fn play_base() {
     play(b"base", &mut rules, &mut beside, Way::Listing);
 }
 
-fn play_more() {
-    let mut rules = *b"more/000.rules";
-    let mut beside = *b"more/000.listing";
-    play(b"more", &mut rules, &mut beside, Way::Listing);
-}
-
-fn play_sets() {
-    let mut rules = *b"sets/000.rules";
-    let mut beside = *b"sets/000.check";
-    play(b"sets", &mut rules, &mut beside, Way::Check);
-}
-
 fn play_full() {
     let mut rules = *b"full/000.rules";
     let mut beside = *b"full/000.listing";
@@ -413,8 +401,6 @@ fn play_made() {
 
 fn main() {
     play_base();
-    play_more();
-    play_sets();
     play_full();
     play_pass();
     play_made();

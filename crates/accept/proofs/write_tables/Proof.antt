@@ -12,7 +12,7 @@ use Rattle.states.specs.Asked.{Limited, productionsAt}
 use Rattle.refusals.specs.Tests.{earlierIn, knownSymbols}
 use Rattle.meaning.specs.Limits.{mostStates}
 use Rattle.accept.proofs.Ready.{symbols-fit, limited, productions, tables-are, tables-length}
-use Rattle.accept.proofs.Answering.{accepted-read, accepted-few}
+use Rattle.rules.proofs.Limits.{accepted-read, accepted-few}
 use borrow.Author.Needs.{needs}
 use Rattle.accept.proofs.write_tables.Statement.{statement}
 use Rattle.accept.proofs.write_tables.Tie as tie

@@ -1,18 +1,22 @@
 -- `analysis::analyse` meets its contract. Assumes nothing.
+use Prim.Native.Nat.{ℕ, _≤_}
 use mathlib.Core.Path.{_≡_, sym, ap, _∙_}
 use native.Mathlib.Omega.{arith}
 use borrow.Author.Needs.{needs}
+use lib.ListN.{length, take}
 use lib.Seq.{length-take-le}
+use Rattle.meaning.specs.Limits.{mostStates}
 use Rattle.meaning.specs.Refusals.{Answer, accepted}
 use Rattle.meaning.specs.Files.{fileAnswer}
 use Rattle.meaning.specs.Calls.{statesOf}
 use Rattle.meaning.proofs.Answers.{zero-accepted}
-use Rattle.states.specs.Packed.{packed}
-use Rattle.states.proofs.Packed.{known-sets, many-is}
-use Rattle.accept.proofs.Answering.{accepted-read, accepted-few, read-states}
+use Rattle.states.specs.Packed.{packed, countOf}
+use Rattle.states.proofs.Packed.{count-fits, counted-sets}
+use Rattle.rules.proofs.Limits.{accepted-read, accepted-few}
+use Rattle.accept.proofs.Answering.{read-states}
 use Rattle.analysis.specs.declared.Analysis.{Analysis}
 use Rattle.analysis.specs.Given.{given}
-use Rattle.analysis.proofs.Ends.{file-refused, sets-fit}
+use Rattle.analysis.proofs.Ends.{file-refused}
 use Rattle.analysis.proofs.analyse.Statement.{statement}
 use Rattle.analysis.proofs.analyse.Tie as tie
 
@@ -37,23 +41,28 @@ is-accepted c =
 states-are : (c : tie.Else1) → c .before .before .before .accept .result .states ≡ packed (statesOf (c .before .before .before .before .before .before .before .before .before .args .file .now))
 states-are c = let file = c .before .before .before .before .before .before .before .before .before .args .file .now in c .before .before .before .accept .ensures .2 ∙ sym (read-states file (accepted-read file (is-accepted c)))
 
-enum-known-count : tie.Need-enum-known-count
-enum-known-count c = search needs
+-- as many of the sets as there are states are the states
+module _ (c : tie.Else1) (m : ℕ) (e : m ≡ countOf (c .before .before .before .accept .result .states)) where
+  few : length (statesOf (c .before .before .before .before .before .before .before .before .before .args .file .now)) ≤ mostStates
+  few = accepted-few (c .before .before .before .before .before .before .before .before .before .args .file .now) (is-accepted c)
+
+  fits : m ≤ length (c .before .before .before .accept .result .states .sets)
+  fits = omega (arith, e, count-fits (statesOf (c .before .before .before .before .before .before .before .before .before .args .file .now)) few (states-are c))
+
+  found : take m (c .before .before .before .accept .result .states .sets) ≡ statesOf (c .before .before .before .before .before .before .before .before .before .args .file .now)
+  found = ap (λ (n : ℕ). take n (c .before .before .before .accept .result .states .sets)) e ∙ counted-sets (statesOf (c .before .before .before .before .before .before .before .before .before .args .file .now)) few (states-are c)
+
+count-of-requires : tie.Need-count-of-requires
+count-of-requires c κs = search needs
 
 array-share-prefix-sets : tie.Need-array-share-prefix-sets
-array-share-prefix-sets c = sets-fit (statesOf (c .before .before .before .before .before .before .before .before .before .before .before .before .before .before .before .args .file .now)) (states-are (c .before .before .before .before .before .before)) (c .before .before .count .given .1)
+array-share-prefix-sets c = fits (c .before .before .before .before) (c .before .count-of .result) (c .before .count-of .ensures)
 
 slice-aggregate-analyse-accepted : tie.Need-slice-aggregate-analyse-accepted
-slice-aggregate-analyse-accepted c = sym (length-take-le (c .before .before .before .count .given .0 .0) (c .before .before .before .before .before .before .before .before .before .before .accept .result .states .sets) (sets-fit (statesOf (c .before .before .before .before .before .before .before .before .before .before .before .before .before .before .before .before .args .file .now)) (states-are (c .before .before .before .before .before .before .before)) (c .before .before .before .count .given .1)))
+slice-aggregate-analyse-accepted c = sym (length-take-le (c .before .before .count-of .result) (c .before .before .before .before .before .before .before .before .accept .result .states .sets) (fits (c .before .before .before .before .before) (c .before .before .count-of .result) (c .before .before .count-of .ensures)))
 
 analyse-accepted-requires : tie.Need-analyse-accepted-requires
-analyse-accepted-requires c κs = (is-accepted (c .before .before .before .before .before .before .before .before .before .before .before), c .before .before .before .before .before .before .before .before .before .before .before .before .before .before .accept .ensures .1, known-sets (statesOf (c .before .before .before .before .before .before .before .before .before .before .before .before .before .before .before .before .before .before .before .before .args .file .now)) (states-are (c .before .before .before .before .before .before .before .before .before .before .before)) (c .before .before .before .before .before .before .before .count .given .1))
-
-enum-told : tie.Need-enum-told
-enum-told c = search needs
-
-refused-requires-2 : tie.Need-refused-requires-2
-refused-requires-2 c κs = tt
+analyse-accepted-requires c κs = (is-accepted (c .before .before .before .before .before .before .before .before .before), c .before .before .before .before .before .before .before .before .before .before .before .before .accept .ensures .1, found (c .before .before .before .before .before .before .before .before .before) (c .before .before .before .before .before .before .count-of .result) (c .before .before .before .before .before .before .count-of .ensures))
 
 same-length : tie.Need-same-length
 same-length c = search needs
@@ -70,12 +79,6 @@ same-length-4 c = search needs
 returns-2 : tie.Need-returns-2
 returns-2 c = c .before .before .before .before .before .before .before .before .analyse-accepted .ensures
 
-returns-3 : tie.Need-returns-3
-returns-3 c =
-    let file = c .before .before .before .before .before .before .before .before .before .before .before .before .before .before .args .file .now in
-    let many = many-is (statesOf file) (states-are (c .before .before .before .before .before)) (c .before .enum-told .given .1) in
-    absurd (omega (arith, many .0, accepted-few file (is-accepted (c .before .before .before .before .before))))
-
 pub analyse-spec : {M : Type 1} → statement M
 analyse-spec =
     tie.close
@@ -83,15 +86,12 @@ analyse-spec =
     accept-requires
     refused-requires
     returns
-    enum-known-count
+    count-of-requires
     array-share-prefix-sets
     slice-aggregate-analyse-accepted
     analyse-accepted-requires
-    enum-told
-    refused-requires-2
     same-length
     same-length-2
     same-length-3
     same-length-4
-    returns-2
-    returns-3)
+    returns-2)

@@ -12,7 +12,7 @@ use Rattle.meaning.specs.Lists.{All}
 use Rattle.meaning.specs.Cells.{cells}
 use Rattle.meaning.specs.Calls.{longEnough}
 use Rattle.meaning.proofs.Lists.{T-of}
-use Rattle.accept.proofs.Answering.{accepted-read, accepted-few}
+use Rattle.rules.proofs.Limits.{accepted-read, accepted-few}
 use Rattle.accept.proofs.Ready.{symbols-fit, tables-length}
 use Rattle.analysis.specs.declared.Analysis.{Analysis}
 use Rattle.analysis.specs.Given.{given}

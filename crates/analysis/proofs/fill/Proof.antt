@@ -8,7 +8,7 @@ use lib.Dec.{lit≤}
 use lib.ListN.{length}
 use Rattle.meaning.specs.Lists.{All}
 use Rattle.meaning.specs.Calls.{tablesOf, modelOf, written}
-use Rattle.accept.proofs.Answering.{accepted-few}
+use Rattle.rules.proofs.Limits.{accepted-few}
 use Rattle.results.specs.Handed.{Handed}
 use Rattle.results.proofs.Fronts.{written-again}
 use Rattle.results.proofs.Handed.{few-symbols, narrow-symbols, few-predicates, fit-predicates}

@@ -11,7 +11,7 @@ use Rattle.meaning.specs.Lists.{All}
 use Rattle.meaning.specs.Cells.{cells}
 use Rattle.meaning.specs.Calls.{lentEnough}
 use Rattle.meaning.proofs.Lists.{T-of}
-use Rattle.accept.proofs.Answering.{accepted-read, accepted-few}
+use Rattle.rules.proofs.Limits.{accepted-read, accepted-few}
 use Rattle.accept.proofs.Ready.{symbols-fit, tables-length}
 use Rattle.results.proofs.Handed.{few-symbols, narrow-symbols, few-predicates, fit-predicates, model-size, predicates-fit}
 use Rattle.checking.proofs.Ends.{too-short, done, enough-is, room}

@@ -4,7 +4,7 @@ use native.Mathlib.Omega.{arith}
 use lib.ListN.{length}
 use Rattle.meaning.proofs.Calls.{verdicts-length}
 use Rattle.lines.proofs.Numbers.{pieces-are}
-use Rattle.accept.proofs.Answering.{accepted-few}
+use Rattle.rules.proofs.Limits.{accepted-few}
 use Rattle.lines.proofs.Found.{marks-few}
 use borrow.Author.Needs.{needs}
 use Rattle.lines.proofs.piece_count.Statement.{statement}

@@ -6,7 +6,7 @@ use native.Mathlib.Omega.{arith}
 use lib.ListN.{length, take, drop, length-take}
 use Rattle.text.specs.Pasted.{Put}
 use Rattle.lines.specs.Lines.{namedText}
-use Rattle.accept.proofs.Limits.{predicates-few}
+use Rattle.rules.proofs.Limits.{predicates-few}
 use Rattle.lines.proofs.AtomAt.{row-asked, content-some, row-fits, line-is, line-short}
 use borrow.Author.Needs.{needs}
 use Rattle.lines.proofs.put_cell.Statement.{statement}

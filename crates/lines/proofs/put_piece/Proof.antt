@@ -5,7 +5,7 @@ use mathlib.Core.List.{List}
 use native.Mathlib.Omega.{arith}
 use lib.ListN.{length}
 use Rattle.text.specs.Pasted.{Put}
-use Rattle.accept.proofs.Answering.{accepted-few}
+use Rattle.rules.proofs.Limits.{accepted-few}
 use Rattle.lines.proofs.AtHand.{piece-of-states, piece-of-model, piece-of-queries, query-inside}
 use borrow.Author.Needs.{needs}
 use Rattle.lines.proofs.put_piece.Statement.{statement}

@@ -12,8 +12,7 @@ use Rattle.text.specs.Pasted.{Put}
 use Rattle.text.proofs.Putting.{put-none}
 use Rattle.meaning.proofs.Calls.{marks-length}
 use Rattle.lines.proofs.Numbers.{line-marked, line-unmarked}
-use Rattle.accept.proofs.Answering.{accepted-few}
-use Rattle.accept.proofs.Limits.{predicates-few, predicates-small, predicates-known, predicates-length, predicates-count}
+use Rattle.rules.proofs.Limits.{accepted-few, predicates-few, predicates-small, predicates-known, predicates-length, predicates-count}
 use borrow.Author.Needs.{needs}
 use Rattle.lines.proofs.put_place.Statement.{statement}
 use Rattle.lines.proofs.put_place.Tie as tie

@@ -6,7 +6,7 @@ use native.Mathlib.Omega.{arith}
 use lib.Dec.{lit<}
 use lib.ListN.{length, getD}
 use Rattle.meaning.specs.Lists.{All}
-use Rattle.meaning.specs.Limits.{predicate, mostOf, mostPredicateArity}
+use Rattle.meaning.specs.Limits.{predicate, mostOf, mostPredicateArity, mostStates}
 use Rattle.meaning.specs.Fields.{fields}
 use Rattle.meaning.specs.Refusals.{accepted, contents, aritiesIn, firstByte, isRefused, firstRefused}
 use Rattle.meaning.specs.Files.{rulesIn, rulesOf, readAnswer, fileAnswer}
@@ -22,9 +22,17 @@ use Rattle.refusals.specs.declared.Known.{Known}
 use Rattle.refusals.specs.Known.{Knows, fieldsRead}
 use Rattle.refusals.specs.Tests.{knownPredicates}
 use Rattle.refusals.proofs.Knowing.{length-arities, count-of}
 use Rattle.rules.proofs.Keeping.{length-padded}
 use Rattle.rules.proofs.Whole.{knows-all, reads}
-use Rattle.accept.proofs.Answering.{accepted-read}
+
+-- an accepted file is read, and its states are few
+module _ (file : List ℕ) where
+  pub accepted-read : fileAnswer file ≡ accepted → readAnswer file ≡ accepted
+  accepted-read e = let w = accepted-exact file .0 e in read-accepted file .1 (w .0, w .1)
+
+  pub accepted-few : fileAnswer file ≡ accepted → length (statesOf file) ≤ mostStates
+  unfolding statesOf symbolArities
+  accepted-few e = accepted-exact file .0 e .2
 
 -- an accepted file keeps the limits
 module _ (file : List ℕ) (e : fileAnswer file ≡ accepted) where
