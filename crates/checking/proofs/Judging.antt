@@ -28,7 +28,7 @@ use Rattle.accept.specs.declared.Answer.{Answer}
 use Rattle.accept.specs.Accepted.{answered}
 use Rattle.rules.proofs.Limits.{predicates-known}
 use Rattle.instances.specs.Partial.{lookUp}
-use Rattle.model.specs.Rounds.{clausesIn}
+use Rattle.stages.specs.Search.{clausesIn}
 use Rattle.results.specs.Handed.{Handed}
 use Rattle.results.proofs.Handing.{few-states, few-preds, narrow-preds, handed-violations}
 use Rattle.faults.specs.declared.Fault.{Fault}

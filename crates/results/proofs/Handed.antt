@@ -35,10 +35,10 @@ use Rattle.rules.proofs.Limits.{accepted-read, accepted-few, predicates-few, pr
 use Rattle.accept.proofs.Ready.{limited}
 use Rattle.instances.specs.Partial.{lookUp, Setting}
 use Rattle.instances.proofs.Tables.{lookUp-tables, range-states}
-use Rattle.stages.specs.Search.{clauseOf}
+use Rattle.stages.specs.Search.{clauseOf, clausesIn, Readable}
 use Rattle.verdicts.specs.Asking.{noAtom, queryOf}
 use Rattle.results.specs.Handed.{Queries, verdictIn}
-use Rattle.model.specs.Rounds.{clausesIn, Readable, Modelling}
+use Rattle.model.specs.Rounds.{Modelling}
 use Rattle.model.proofs.Underway.{clauses-well}
 
 -- contents that can be read say what is read of them

@@ -17,7 +17,8 @@ use Rattle.refusals.specs.Tests.{knownTypes, knownSymbols, knownPredicates, ear
 use Rattle.rules.proofs.Limits.{accepted-read, accepted-few}
 use Rattle.accept.proofs.Ready.{limited}
 use Rattle.instances.specs.Partial.{lookUp}
-use Rattle.model.specs.Rounds.{clausesIn, Modelling}
+use Rattle.stages.specs.Search.{clausesIn}
+use Rattle.model.specs.Rounds.{Modelling}
 use Rattle.verdicts.specs.Asking.{Asking}
 use Rattle.cells.specs.Starts.{Starts}
 use Rattle.results.specs.Handed.{Handed, Queries, verdictIn}

@@ -66,14 +66,14 @@ pub fn program(accepted: &Accepted) -> String {
 }
 
 /// How long gringo takes for a program, if it is installed and ends within the limit.
-pub fn time(program: &str) -> Option<Duration> {
+pub fn time(program: &str, limit: Duration) -> Option<Duration> {
     let path = std::env::temp_dir().join(format!("rules-bench-{}.lp", std::process::id()));
     std::fs::write(&path, program).ok()?;
     let start = Instant::now();
     let mut command = Command::new("gringo");
     command.arg("--text").arg(&path).stdout(Stdio::null());
     let taken = (command.spawn().ok())
-        .and_then(|mut child| crate::ends(&mut child).then(|| start.elapsed()));
+        .and_then(|mut child| crate::ends(&mut child, limit).then(|| start.elapsed()));
     let _ = std::fs::remove_file(&path);
     taken
 }
