@@ -38,8 +38,9 @@ use Rattle.instances.proofs.Tables.{lookUp-tables, range-states}
 use Rattle.stages.specs.Search.{clauseOf, clausesIn, Readable}
 use Rattle.verdicts.specs.Asking.{noAtom, queryOf}
 use Rattle.results.specs.Handed.{Queries, verdictIn}
+use Rattle.stages.specs.Plans.{Short}
 use Rattle.model.specs.Rounds.{Modelling}
-use Rattle.model.proofs.Underway.{clauses-well}
+use Rattle.stages.proofs.Content.{clauses-well}
 
 -- contents that can be read say what is read of them
 read-map : {A : Type 0} (reader : List ℕ → Option A) (a : A) (cs : List (List ℕ))
@@ -79,8 +80,11 @@ module _ (file : List ℕ) (known : Known) (e : fileAnswer file ≡ accepted) (k
   pub few-symbols : length (knownSymbols known) ≤ 24
   few-symbols = limited file known (accepted-read file e) knows .symbols
 
+  pub binary-symbols : All (λ n. n ≤ 2) (knownSymbols known)
+  binary-symbols = limited file known (accepted-read file e) knows .small
+
   pub narrow-symbols : All (λ n. n ≤ 4) (knownSymbols known)
-  narrow-symbols = All-map (knownSymbols known) (λ n le. le-trans le (lit≤ tt)) (limited file known (accepted-read file e) knows .small)
+  narrow-symbols = All-map (knownSymbols known) (λ n le. le-trans le (lit≤ tt)) binary-symbols
 
   -- the predicates are few and narrow, and stand in their array
   pub few-predicates : length (knownPredicates known) ≤ 16
@@ -108,6 +112,17 @@ module _ (file : List ℕ) (known : Known) (e : fileAnswer file ≡ accepted) (k
   clauses-counted =
       let read = accepted-read file e in
       ap length (earlier file known read knows clause) ∙ sym (count-of known (fields file) (knows-all file known read knows) 5 (lit< tt))
+
+  -- they are within the limits
+  pub clauses-short : Short (earlierIn file known 5)
+  clauses-short =
+      let read = accepted-read file e in
+      subst Short (sym (earlier file known read knows clause)) (well file known read knows .sizes clause)
+
+  pub clauses-most : length (earlierIn file known 5) ≤ 64
+  clauses-most =
+      let read = accepted-read file e in
+      subst (λ (cs : List (List ℕ)). length cs ≤ 64) (sym (earlier file known read knows clause)) (well file known read knows .counts clause)
 
   clauses-are : clausesIn (knownSymbols known) (knownPredicates known) (earlierIn file known 5) ≡ rulesOf file .clauses
   unfolding clauseOf
@@ -177,11 +192,15 @@ module _ (file : List ℕ) (known : Known) (e : fileAnswer file ≡ accepted) (k
             record {
               some = states-some file e;
               setting = setting;
+              symbols = few-symbols;
+              binary = binary-symbols;
               few = few-predicates;
               narrow = narrow-predicates;
               enough = many;
               segmented = parts;
               readable = clauses-read;
+              short = clauses-short;
+              most = clauses-most;
             }
 
     -- the model and its round count

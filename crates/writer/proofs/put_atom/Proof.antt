@@ -10,7 +10,7 @@ use Rattle.meaning.specs.Cells.{rowOf}
 use Rattle.meaning.proofs.Cells.{length-rowOf}
 use Rattle.text.specs.Pasted.{Put}
 use Rattle.text.proofs.Putting.{put-room, put-then}
-use Rattle.segments.proofs.Shows.{row-part}
+use Rattle.writer.proofs.Rows.{row-part}
 use Rattle.writer.proofs.Fields.{field-parts}
 use Rattle.writer.proofs.put_atom.Statement.{statement}
 use Rattle.writer.proofs.put_atom.Tie as tie

@@ -1,0 +1,12 @@
+-- The row of a cell, in an array of four. Assumes nothing.
+use Prim.Native.Nat.{ℕ, _-_}
+use mathlib.Core.Path.{_≡_, sym, ap, _∙_}
+use mathlib.Core.List.{List, _++_}
+use lib.ListN.{take, replicate}
+use lib.Seq.{take-at}
+use Rattle.meaning.specs.Cells.{rowOf}
+use Rattle.meaning.proofs.Cells.{length-rowOf}
+
+-- the first places of the array are the row
+pub row-part : (m n c k : ℕ) (row : List ℕ) → row ≡ rowOf m n c ++ replicate (4 - n) 0 → k ≡ n → take k row ≡ rowOf m n c
+row-part m n c k row e h = ap (take k) e ∙ take-at (rowOf m n c) (replicate (4 - n) 0) k (length-rowOf m n c ∙ sym h)
