@@ -3,7 +3,7 @@
 //! that grow in one number. Times are the least of several runs, in a process of their own each,
 //! which is ended at a limit; those that end must give the same answer.
 //!
-//!     bench [--without-adversary]
+//!     bench [--without-slow]
 //!     bench files [name ..]
 
 mod family;
@@ -19,10 +19,9 @@ use std::process::{Child, Command, Stdio};
 use std::time::{Duration, Instant};
 
 const LIMIT: Duration = Duration::from_secs(20);
-const ADVERSARY: &str = "adversary";
-const ADVERSARY_LIMIT: Duration = Duration::from_secs(150);
+const SLOW_LIMIT: Duration = Duration::from_secs(150);
 
-const FILES: [&str; 9] = [
+const FILES: [&str; 8] = [
     "e",
     "tokenring",
     "revapp",
@@ -31,8 +30,10 @@ const FILES: [&str; 9] = [
     "dense",
     "long",
     "longest",
-    ADVERSARY,
 ];
+
+/// Those that take a minute or more.
+const SLOW: [&str; 2] = ["adversary", "worst"];
 
 /// The counts of atoms and rounds, and the verdicts.
 type Answer = (usize, usize, Vec<u8>);
@@ -232,8 +233,8 @@ fn print_files(gringo: bool, names: &[&str]) {
     table.heading("file");
     for name in names {
         let file = std::fs::read(folder.join(name).with_extension("rules")).expect("a bench file");
-        let limit = if *name == ADVERSARY {
-            ADVERSARY_LIMIT
+        let limit = if SLOW.contains(name) {
+            SLOW_LIMIT
         } else {
             LIMIT
         };
@@ -279,12 +280,12 @@ fn main() {
     match words.as_slice() {
         [] => {
             let gringo = has_gringo();
-            print_files(gringo, &FILES);
+            print_files(gringo, &[&FILES[..], &SLOW].concat());
             print_families(gringo);
         }
-        ["--without-adversary"] => {
+        ["--without-slow"] => {
             let gringo = has_gringo();
-            print_files(gringo, &FILES[..FILES.len() - 1]);
+            print_files(gringo, &FILES);
             print_families(gringo);
         }
         ["files"] => print_files(has_gringo(), &FILES),
@@ -295,7 +296,7 @@ fn main() {
                 .into_iter()
                 .for_each(|program| print_least(program.1, &file));
         }
-        _ => eprintln!("bench [--without-adversary], or bench files [name ..]"),
+        _ => eprintln!("bench [--without-slow], or bench files [name ..]"),
     }
 }
 
