@@ -1,12 +1,12 @@
 -- How a sheet check ends: refused with 9, or answered by the sheet. Assumes nothing.
 use Prim.Native.Nat.{ℕ, _≤_}
-use mathlib.Core.Path.{_≡_, sym, ap, subst, _∙_}
+use mathlib.Core.Path.{_≡_, sym, ap, ap₂, subst, _∙_}
 use mathlib.Core.Logic.{_≢_}
 use mathlib.Core.Bool.{Bool, true, false, cond, not, _&&_}
-use mathlib.Core.List.{List}
+use mathlib.Core.List.{List, _++_}
 use native.Mathlib.Omega.{arith}
 use lib.Dec.{T, eqb, eqb→eq, leb, leb→le}
-use lib.ListN.{length, replicate}
+use lib.ListN.{length, drop, replicate, length-replicate}
 use Rattle.meaning.specs.Cells.{cells}
 use Rattle.meaning.specs.Refusals as meant
 use Rattle.meaning.specs.Certificates.{sheetAnswer}
@@ -17,6 +17,11 @@ use Rattle.meaning.proofs.Answers.{then-first, then-next}
 use Rattle.accept.specs.declared.Answer.{Answer}
 use Rattle.accept.specs.Accepted.{answered}
 use Rattle.checking.specs.Given.{gave}
+
+-- a part of zeros, with the marks past it
+pub zeros-written : (marks : List ℕ) {part : List ℕ} {size n k : ℕ} → part ≡ replicate n 0 → size ≡ n → size ≡ k → part ++ drop size marks ≡ written (replicate k 0) marks
+zeros-written marks {part} {size} {n} {k} zeros e is =
+    ap₂ (λ (l : List ℕ) (j : ℕ). l ++ drop j marks) (zeros ∙ ap (λ (j : ℕ). replicate j 0) (sym e ∙ is)) (is ∙ sym (length-replicate k 0))
 
 module _ (file sheet : List ℕ) (before : Lent) where
   -- a refusal with 1 to 9, with both buffers untouched

@@ -1,6 +1,5 @@
 // A sheet checked for an accepted file: 9 if a buffer is too short, then 10 to 13, each at the lowest place that it fits.
 use accept::Answer;
-use faults::Fault;
 use refusals::Known;
 ghost use Prim.Native.Nat.{_≤_};
 ghost use mathlib.Core.Path.{_≡_};
@@ -22,56 +21,7 @@ fn wide(b: u8) -> usize
     b as usize
 }
 
-// The answer to a sheet. The marks are zero at first, and of no use afterwards.
-fn judge(
-    sheet: &[u8],
-    file: &[u8],
-    known: Known,
-    found: &[u16],
-    symbols: &[u8],
-    preds: &[u8],
-    starts: &[u32],
-    segments: &[u32],
-    tables: &[u8],
-    marks: &mut [u8],
-) -> Answer
-    requires { ⌜ Handed (now file) known (now symbols) (now preds) (length (now found)) (now starts) (now segments) (now tables) × (now found ≡ statesOf (now file)) × (now marks ≡ replicate (cells (length (now found)) (now preds)) 0) ⌝ }
-    ensures answer { λ r. ⌜ answered r ≡ sheetAnswer (statesOf (now (file .entry))) (interpretationOf (now (file .entry))) (predicateArities (now (file .entry))) (rulesOf (now (file .entry)) .clauses) (now (sheet .entry)) ⌝ }
-    ensures size { λ _. ⌜ length (now (marks .exit)) ≡ length (now (marks .entry)) ⌝ }
-{
-    let m = found.len();
-    match sheets::first_misplaced(sheet, preds) {
-        Fault::At(k) => return accept::refusal(10, k),
-        Fault::Nowhere => {}
-    }
-    match sheets::first_difference(sheet, found) {
-        Fault::At(i) => return accept::refusal(11, i),
-        Fault::Nowhere => {}
-    }
-    match marking::mark_atoms(sheet, marks, preds, segments, m) {
-        Fault::At(k) => return accept::refusal(12, k),
-        Fault::Nowhere => {}
-    }
-    let counts = known.counts;
-    let begins = known.starts;
-    match closure::first_violation(
-        file,
-        begins[5],
-        counts[5],
-        symbols,
-        starts,
-        tables,
-        m,
-        preds,
-        segments,
-        marks,
-    ) {
-        Fault::At(c) => accept::refusal(13, c),
-        Fault::Nowhere => accept::no_refusal(),
-    }
-}
-
-// The same, with marks that are zero afterwards, whatever they were.
+// The answer to a sheet, with marks that are zero afterwards, whatever they were.
 fn judge_cleanly(
     sheet: &[u8],
     file: &[u8],
@@ -90,7 +40,7 @@ fn judge_cleanly(
 {
     let m = found.len();
     segments::zero_all(marks, preds, m);
-    let answer = judge(
+    let answer = judging::judge(
         sheet,
         file,
         known,

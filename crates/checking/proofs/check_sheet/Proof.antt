@@ -14,7 +14,7 @@ use Rattle.results.specs.Handed.{Handed}
 use Rattle.results.proofs.Fronts.{written-again}
 use Rattle.results.proofs.Handed.{few-symbols, narrow-symbols, few-predicates, fit-predicates}
 use Rattle.results.proofs.Handing.{handed-size}
-use Rattle.checking.proofs.Judging.{zeros-written}
+use Rattle.checking.proofs.Ends.{zeros-written}
 use borrow.Author.Needs.{needs}
 use Rattle.checking.proofs.check_sheet.Statement.{statement}
 use Rattle.checking.proofs.check_sheet.Tie as tie

@@ -1,7 +1,7 @@
 -- `checking::judge_cleanly` meets its contract: the marks are zeroed before and after. Assumes nothing.
 use mathlib.Core.Path.{_∙_}
 use Rattle.results.proofs.Handing.{few-states, narrow-preds}
-use Rattle.checking.proofs.Judging.{length-zeros}
+use Rattle.judging.proofs.Judging.{length-zeros}
 use borrow.Author.Needs.{needs}
 use Rattle.checking.proofs.judge_cleanly.Statement.{statement}
 use Rattle.checking.proofs.judge_cleanly.Tie as tie

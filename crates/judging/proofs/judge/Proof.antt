@@ -1,4 +1,4 @@
--- `checking::judge` meets its contract: each search is made where no earlier number fits. Assumes nothing.
+-- `judging::judge` meets its contract: each search is made where no earlier number fits. Assumes nothing.
 use Prim.Native.Nat.{max}
 use mathlib.Core.Path.{_≡_, refl, sym, _∙_}
 use mathlib.Core.Option.{none}
@@ -9,10 +9,10 @@ use Rattle.meaning.specs.Fields.{fields, contentsOf, firstField}
 use Rattle.meaning.specs.Certificates.{misplaced, statesIn, differ, wrongAtom}
 use Rattle.results.proofs.Handing.{handed-modelling, handed-clauses}
 use Rattle.marking.specs.Holding.{Holding}
-use Rattle.checking.proofs.Judging.{nowhere, somewhere, segmented, length-zeros, ends-ten, ends-eleven, ends-twelve, ends-thirteen, ends-passed}
+use Rattle.judging.proofs.Judging.{nowhere, somewhere, segmented, length-zeros, ends-ten, ends-eleven, ends-twelve, ends-thirteen, ends-passed}
 use borrow.Author.Needs.{needs}
-use Rattle.checking.proofs.judge.Statement.{statement}
-use Rattle.checking.proofs.judge.Tie as tie
+use Rattle.judging.proofs.judge.Statement.{statement}
+use Rattle.judging.proofs.judge.Tie as tie
 
 -- 10, 11 and 12 do not fit
 none10 : (c : tie.After-enum-told) → firstField (misplaced (c .before .before .before .before .before .before .before .before .before .before .before .before .args .preds .now)) (fields (c .before .before .before .before .before .before .before .before .before .before .before .before .args .sheet .now)) ≡ none

@@ -1,22 +1,21 @@
 -- The answer to a sheet from the four searches, and what each of them asks. Assumes nothing.
 use Prim.Native.Nat.{ℕ, zero, suc, _^_, max}
-use mathlib.Core.Path.{_≡_, refl, sym, ap, ap₂, subst, _∙_}
-use mathlib.Core.Logic.{_⊎_, inl, inr}
-use mathlib.Core.Bool.{Bool, true, false, cond, not, _&&_, _||_}
+use mathlib.Core.Path.{_≡_, refl, sym, ap, subst, _∙_}
+use mathlib.Core.Bool.{Bool, true, false, cond, not, _&&_}
 use mathlib.Core.List.{List, [], _∷_, _++_, Memᴰ·cast}
 use mathlib.Core.Option.{Option, none, some}
 use lib.Dec.{T, eqb, eqb→eq, ltb, ltb→lt}
-use lib.ListN.{length, drop, replicate, length-replicate}
+use lib.ListN.{length, replicate, length-replicate}
 use Rattle.meaning.specs.Lists.{All, all, any, anyBelow, same, lowest}
 use Rattle.meaning.specs.Syntax.{Clause}
-use Rattle.meaning.specs.Limits.{stateTag, atomTag}
+use Rattle.meaning.specs.Limits.{atomTag}
 use Rattle.meaning.specs.Fields.{Field, whole, cut, fields, contentsOf, firstField}
 use Rattle.meaning.specs.Cells.{rowOf}
 use Rattle.meaning.specs.Clauses.{IsAtom, instanceIn, marked}
 use Rattle.meaning.specs.Certificates.{IsSheetAtom, isAtomContent, misplaced, statesIn, differ, wrongAtom, among, violated, violatedAt, sheetAnswer, markedAtoms}
 use Rattle.meaning.specs.Refusals as meant
 use Rattle.meaning.specs.Files.{rulesOf}
-use Rattle.meaning.specs.Calls.{predicateArities, statesOf, interpretationOf, written}
+use Rattle.meaning.specs.Calls.{predicateArities, statesOf, interpretationOf}
 use Rattle.meaning.proofs.Lists.{T-of, bool-ext, lowest-ext, not-not, neither, any-find, any-give, all-facts, All-append, All-find, All-map, same-eq, same-refl}
 use Rattle.meaning.proofs.Contents.{declared-exact}
 use Rattle.meaning.proofs.Fields.{NoField, firstField-none}
@@ -62,11 +61,6 @@ somewhere {o} {k = k} is e = fault-some o k (sym e ∙ is)
 -- as many marks as cells
 pub length-zeros : (marks : List ℕ) {n : ℕ} → marks ≡ replicate n 0 → length marks ≡ n
 length-zeros marks {n} e = ap length e ∙ length-replicate n 0
-
--- a part of zeros, with the marks past it
-pub zeros-written : (marks : List ℕ) {part : List ℕ} {size n k : ℕ} → part ≡ replicate n 0 → size ≡ n → size ≡ k → part ++ drop size marks ≡ written (replicate k 0) marks
-zeros-written marks {part} {size} {n} {k} zeros e is =
-    ap₂ (λ (l : List ℕ) (j : ℕ). l ++ drop j marks) (zeros ∙ ap (λ (j : ℕ). replicate j 0) (sym e ∙ is)) (is ∙ sym (length-replicate k 0))
 
 -- where the segments of the predicates start
 pub segmented : {file : List ℕ} {known : Known} {symbols preds : List ℕ} {m : ℕ} {starts segments tables : List ℕ}
