@@ -2,3 +2,4 @@ pub mod Powers
 pub mod Rows
 pub mod Segments
 pub mod Beginnings
+pub mod Fronts

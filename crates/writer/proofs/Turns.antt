@@ -15,7 +15,7 @@ use Rattle.meaning.proofs.Lists.{All-map, All-getD, table-ext}
 use Rattle.meaning.proofs.Cells.{cell-of-row}
 use Rattle.meaning.proofs.MarkedAtoms.{nonzero}
 use Rattle.cells.proofs.Segments.{start-most}
-use Rattle.segments.proofs.Fronts.{segment-end}
+use Rattle.cells.proofs.Fronts.{segment-end}
 use Rattle.segments.proofs.Counts.{counted-le}
 use Rattle.writer.specs.Parts.{atomFields, partAtoms}
 use Rattle.writer.proofs.Fields.{fields-append, ifMarked, part-table, part-length}
