@@ -1,4 +1,3 @@
-pub mod News
 pub mod Bringing
 pub mod Seeking
 pub mod Presenting

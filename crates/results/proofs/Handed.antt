@@ -9,7 +9,7 @@ use lib.Dec.{T, lit≤, lit<}
 use lib.ListN.{length, getD, drop, length-append, length-map}
 use Rattle.meaning.specs.Lists.{All, lowest}
 use Rattle.meaning.specs.Syntax.{Clause, Query}
-use Rattle.meaning.specs.Limits.{symbol, predicate, clause, query}
+use Rattle.meaning.specs.Limits.{tagOf, Kind, symbol, predicate, clause, query}
 use Rattle.meaning.specs.Fields.{fields}
 use Rattle.meaning.specs.Legal.{Declared, WellClause, WellQuery}
 use Rattle.meaning.specs.Contents.{isSome, readClause, readQuery}
@@ -36,7 +36,8 @@ use Rattle.accept.proofs.Ready.{limited}
 use Rattle.instances.specs.Partial.{lookUp, Setting}
 use Rattle.instances.proofs.Tables.{lookUp-tables, range-states}
 use Rattle.stages.specs.Search.{clauseOf, clausesIn, Readable}
-use Rattle.verdicts.specs.Asking.{noAtom, queryOf}
+use Rattle.stages.specs.Programs.{noAtom}
+use Rattle.verdicts.specs.Asking.{queryOf}
 use Rattle.results.specs.Handed.{Queries, verdictIn}
 use Rattle.stages.specs.Plans.{Short}
 use Rattle.model.specs.Rounds.{Modelling}
@@ -113,11 +114,11 @@ module _ (file : List ℕ) (known : Known) (e : fileAnswer file ≡ accepted) (k
       let read = accepted-read file e in
       ap length (earlier file known read knows clause) ∙ sym (count-of known (fields file) (knows-all file known read knows) 5 (lit< tt))
 
-  -- they are within the limits
-  pub clauses-short : Short (earlierIn file known 5)
-  clauses-short =
+  -- contents are within the limits
+  pub contents-short : (k : Kind) → Short (earlierIn file known (tagOf k))
+  contents-short k =
       let read = accepted-read file e in
-      subst Short (sym (earlier file known read knows clause)) (well file known read knows .sizes clause)
+      subst Short (sym (earlier file known read knows k)) (well file known read knows .sizes k)
 
   pub clauses-most : length (earlierIn file known 5) ≤ 64
   clauses-most =
@@ -199,7 +200,7 @@ module _ (file : List ℕ) (known : Known) (e : fileAnswer file ≡ accepted) (k
               enough = many;
               segmented = parts;
               readable = clauses-read;
-              short = clauses-short;
+              short = contents-short clause;
               most = clauses-most;
             }
 

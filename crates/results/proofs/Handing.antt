@@ -1,27 +1,34 @@
 -- What is handed on, by the names that the code has for it. Assumes nothing.
-use Prim.Native.Nat.{ℕ, _≤_}
-use mathlib.Core.Path.{_≡_, refl, sym, ap₂, subst, _∙_}
+use Prim.Native.Nat.{ℕ, _*_, _≤_}
+use mathlib.Core.Path.{_≡_, sym, ap, ap₂, subst, _∙_}
 use mathlib.Core.List.{List, map}
 use native.Mathlib.Nat.{le-trans}
 use lib.Dec.{lit≤}
-use lib.ListN.{length, getD, take}
+use lib.ListN.{length, getD, take, replicate}
 use Rattle.meaning.specs.Lists.{All, lowest}
 use Rattle.meaning.specs.Cells.{cells}
 use Rattle.meaning.specs.Clauses.{model, rounds}
 use Rattle.meaning.specs.Certificates.{markedAtoms, violatedAt}
 use Rattle.meaning.specs.Files.{rulesOf}
 use Rattle.meaning.specs.Calls.{statesOf, interpretationOf, tablesOf, roundsOf, modelOf, atomsOf, verdictsOf, written}
+use Rattle.meaning.specs.Limits.{query}
 use Rattle.meaning.proofs.Lists.{All-map}
+use Rattle.meaning.proofs.Stages.{stage-bits}
 use Rattle.refusals.specs.declared.Known.{Known}
 use Rattle.refusals.specs.Tests.{knownTypes, knownSymbols, knownPredicates, earlierIn}
 use Rattle.rules.proofs.Limits.{accepted-read, accepted-few}
 use Rattle.accept.proofs.Ready.{limited}
 use Rattle.instances.specs.Partial.{lookUp}
-use Rattle.stages.specs.Search.{clausesIn}
+use Rattle.stages.specs.Masks.{stageMasks, bothMasks}
+use Rattle.stages.specs.Programs.{codeSize, planSize}
+use Rattle.stages.proofs.Empty.{room, zeros}
+use Rattle.stages.specs.Search.{AllShown, clausesIn}
+use Rattle.stages.specs.Plans.{Short}
+use Rattle.runs.specs.Bringing.{PresentOnly}
 use Rattle.model.specs.Rounds.{Modelling}
 use Rattle.verdicts.specs.Asking.{Asking}
 use Rattle.cells.specs.Starts.{Starts}
-use Rattle.results.specs.Handed.{Handed, Queries, verdictIn}
+use Rattle.results.specs.Handed.{Handed, Lent, Queries, verdictIn}
 use Rattle.results.proofs.Fronts.{holds-room, holds-first}
 use Rattle.results.proofs.Handed as laws
 
@@ -60,6 +67,9 @@ module _ {file : List ℕ} {known : Known} {symbols preds : List ℕ} {m : ℕ} 
   pub handed-clauses : length (earlierIn file known 5) ≡ getD (known .counts) 5 0
   handed-clauses = laws.clauses-counted file known (h .answer) (h .knows)
 
+  pub few-clauses : getD (known .counts) 5 0 ≤ 64
+  few-clauses = subst (λ (n : ℕ). n ≤ 64) handed-clauses (handed-modelling .most)
+
   pub handed-model : model m (lookUp m symbols tables) preds (clausesIn symbols preds (earlierIn file known 5)) ≡ modelOf file
   handed-model =
       at (λ n ss ps t. model n (lookUp n ss t) ps (clausesIn ss ps (earlierIn file known 5)) ≡ modelOf file) (laws.model-is file known (h .answer) (h .knows) tables)
@@ -84,26 +94,46 @@ module _ {file : List ℕ} {known : Known} {symbols preds : List ℕ} {m : ℕ} 
   unfolding atomsOf
   handed-atoms = at (λ n ss ps t. length (markedAtoms n ps (modelOf file)) ≡ length (atomsOf file)) (laws.atoms-are file known (h .answer) (h .knows))
 
-  pub handed-asking : (sets marks : List ℕ) → sets ≡ statesOf file → marks ≡ modelOf file → Asking (knownTypes known) m sets symbols starts tables preds segments marks
-  handed-asking sets marks is mark =
-      subst (λ (l : List ℕ). Asking (knownTypes known) m l symbols starts tables preds segments marks) (sym is)
-      (subst (λ (l : List ℕ). Asking (knownTypes known) m (statesOf file) symbols starts tables preds segments l) (sym mark)
-      (at (λ n ss ps t. Asking (knownTypes known) n (statesOf file) ss starts t ps segments (modelOf file))
-      (record {
-        setting = laws.setting file known (h .answer) (h .knows) tables starts segments (starts-known .enough) (starts-known .each);
-        placed =
+  -- the marks of a model are 0 and 1
+  pub handed-bits : PresentOnly (modelOf file)
+  unfolding model
+  handed-bits =
+      subst PresentOnly handed-model
+      (stage-bits m (lookUp m symbols tables) preds (clausesIn symbols preds (earlierIn file known 5)) (rounds m (lookUp m symbols tables) preds (clausesIn symbols preds (earlierIn file known 5))))
+
+  pub handed-asking : (sets masks marks : List ℕ)
+      → sets ≡ statesOf file
+      → marks ≡ modelOf file
+      → AllShown m preds (modelOf file) masks
+      → length preds * bothMasks ≤ length masks
+      → Asking (knownTypes known) m sets symbols starts tables preds segments masks marks
+  handed-asking sets masks marks is mark shown room =
+      let asked = handed-modelling in
+      record {
+        searching =
             record {
-              narrow = laws.narrow-predicates file known (h .answer) (h .knows);
-              enough = segments-known .enough;
-              segmented = segments-known .each;
-              size = sym (laws.model-size file known (h .answer) (h .knows));
+              some = asked .some;
+              setting = asked .setting;
+              binary = asked .binary;
+              few = asked .few;
+              narrow = asked .narrow;
+              enough = asked .enough;
+              segmented = asked .segmented;
+              size = ap length mark ∙ sym handed-size;
+              masked = room;
+              shown = subst (λ (l : List ℕ). AllShown m preds l masks) (sym mark) shown;
             };
+        only = subst PresentOnly (sym mark) handed-bits;
+        symbols = asked .symbols;
         fewTypes = limited file known (accepted-read file (h .answer)) (h .knows) .bits;
-        sized = refl;
-      })))
+        sized = ap length is ∙ sym (h .count);
+      }
 
   pub handed-queries : Queries (knownTypes known) symbols preds (earlierIn file known 6)
   handed-queries = at (λ n ss ps t. Queries (knownTypes known) ss ps (earlierIn file known 6)) (laws.queries-read file known (h .answer) (h .knows))
+
+  pub handed-short : Short (earlierIn file known 6)
+  handed-short = laws.contents-short file known (h .answer) (h .knows) query
 
   pub handed-count : length (earlierIn file known 6) ≡ getD (known .counts) 6 0
   handed-count = laws.queries-counted file known (h .answer) (h .knows)
@@ -126,3 +156,18 @@ module _ {file : List ℕ} {known : Known} {symbols preds : List ℕ} {m : ℕ} 
 
     pub marks-are : take n marks ≡ modelOf file
     marks-are = holds-first (modelOf file) marks is (sym size-is)
+
+-- empty buffers with room for `clauses` clauses and `most` predicates
+pub lent-empty : (known : Known) (preds : List ℕ) (clauses most codes plans masks heads : ℕ)
+    → getD (known .counts) 5 0 ≤ clauses
+    → length preds ≤ most
+    → (clauses * codeSize ≤ codes) × (clauses * planSize ≤ plans) × (most * bothMasks ≤ masks) × (most * stageMasks ≤ heads)
+    → Lent known preds (replicate codes 0) (replicate plans 0) (replicate masks 0) (replicate heads 0)
+lent-empty known preds clauses most codes plans masks heads few short fits =
+    record {
+      coded = room (getD (known .counts) 5 0) clauses codeSize codes few (fits .0);
+      planned = room (getD (known .counts) 5 0) clauses planSize plans few (fits .1);
+      masked = room (length preds) most bothMasks masks short (fits .2);
+      noted = room (length preds) most stageMasks heads short (fits .3);
+      empty = zeros heads;
+    }

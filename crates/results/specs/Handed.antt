@@ -1,9 +1,9 @@
 -- What is handed on of an accepted file, and its verdicts.
-use Prim.Native.Nat.{ℕ}
+use Prim.Native.Nat.{ℕ, _*_, _≤_}
 use mathlib.Core.Path.{_≡_}
 use mathlib.Core.List.{List}
 use lib.Dec.{T}
-use lib.ListN.{length}
+use lib.ListN.{length, getD}
 use Rattle.meaning.specs.Lists.{All}
 use Rattle.meaning.specs.Types.{bit}
 use Rattle.meaning.specs.Contents.{isSome, readQuery}
@@ -16,6 +16,8 @@ use Rattle.refusals.specs.declared.Known.{Known}
 use Rattle.refusals.specs.Known.{Knows, fieldsRead}
 use Rattle.refusals.specs.Tests.{knownSymbols, knownPredicates}
 use Rattle.instances.specs.Partial.{lookUp}
+use Rattle.stages.specs.Masks.{stageMasks, bothMasks}
+use Rattle.stages.specs.Programs.{codeSize, planSize}
 use Rattle.verdicts.specs.Asking.{queryOf}
 
 -- what is handed on of an accepted file: its arities, states and tables
@@ -28,6 +30,14 @@ pub record Handed (file : List ℕ) (known : Known) (symbols preds : List ℕ) (
   pub begin : Starts m symbols starts
   pub segment : Starts m preds segments
   pub table : tables ≡ written (tablesOf file) tables
+
+-- buffers that are lent for the programs, the masks and the sets of marked atoms: large enough, and the sets empty
+pub record Lent (known : Known) (preds codes plans masks heads : List ℕ) : Type 0 where
+  pub coded : getD (known .counts) 5 0 * codeSize ≤ length codes
+  pub planned : getD (known .counts) 5 0 * planSize ≤ length plans
+  pub masked : length preds * bothMasks ≤ length masks
+  pub noted : length preds * stageMasks ≤ length heads
+  pub empty : (i : ℕ) → getD heads i 0 ≡ 0
 
 -- contents that say queries, and the byte of a verdict
 abbrev pub Queries : ℕ → List ℕ → List ℕ → List (List ℕ) → Type 0

@@ -7,7 +7,7 @@ use borrow.Author.Needs.{needs}
 use lib.Dec.{lit≤}
 use lib.ListN.{length}
 use Rattle.meaning.specs.Lists.{All}
-use Rattle.meaning.specs.Calls.{tablesOf, modelOf, written}
+use Rattle.meaning.specs.Calls.{tablesOf, written}
 use Rattle.rules.proofs.Limits.{accepted-few}
 use Rattle.results.specs.Handed.{Handed}
 use Rattle.results.proofs.Fronts.{written-again}
@@ -59,31 +59,16 @@ handed c =
       table = c .write-tables .ensures ∙ (sym (written-again (tablesOf (x .args .file .now)) (x .args .tables .now)) ∙ ap (written (tablesOf (x .args .file .now))) (sym (c .write-tables .ensures)));
     }
 
-slice-aggregate-write-model : tie.Need-slice-aggregate-write-model
-slice-aggregate-write-model c = search needs
+slice-aggregate-write-results : tie.Need-slice-aggregate-write-results
+slice-aggregate-write-results c = search needs
 
-slice-aggregate-write-model-2 : tie.Need-slice-aggregate-write-model-2
-slice-aggregate-write-model-2 c = search needs
+slice-aggregate-write-results-2 : tie.Need-slice-aggregate-write-results-2
+slice-aggregate-write-results-2 c = search needs
 
-write-model-requires : tie.Need-write-model-requires
-write-model-requires c κs = (handed (c .before .before .before .before .before .before), c .before .before .before .before .before .before .before .before .before .before .before .before .before .before .before .before .before .before .before .before .before .before .pre .1 .2)
-
-slice-aggregate-write-open : tie.Need-slice-aggregate-write-open
-slice-aggregate-write-open c = search needs
-
-slice-aggregate-write-open-2 : tie.Need-slice-aggregate-write-open-2
-slice-aggregate-write-open-2 c = search needs
-
-write-open-requires : tie.Need-write-open-requires
-write-open-requires c κs =
-    let x = c .before .before .before .before .before .before .before .before .before .before .before .before .before .before .before .before .before .before .before .before .before .before .before .before .before .before .before .before .before .before in
-    let file = x .args .file .now in
-    let done = c .before .before .before .before .before .before .before .write-model .ensures .0 in (
-      handed (c .before .before .before .before .before .before .before .before .before .before .before .before .before .before),
-      x .pre .0 .2,
-      done ∙ (sym (written-again (modelOf file) (x .args .marks .now)) ∙ ap (written (modelOf file)) (sym done)),
-      x .pre .1 .3,
-    )
+write-results-requires : tie.Need-write-results-requires
+write-results-requires c κs =
+    let x = c .before .before .before .before .before .before .before .before .before .before .before .before .before .before .before .before .before .before .before .before .before .before .before in
+    (handed (c .before .before .before .before .before .before .before), x .pre .0 .2, x .pre .1 .2, x .pre .1 .3)
 
 no-refusal-requires : tie.Need-no-refusal-requires
 no-refusal-requires c κs = tt
@@ -102,20 +87,18 @@ same-length-4 c = search needs
 
 returns : tie.Need-returns
 returns c =
-    let x = c .before .before .before .before .before .before .before .before .before .before .before .before .before .before .before .before .before .before .before .before .before .before .before .before .before .before .before .before .before .before .before .before .before .before in
-    let file = x .args .file .now in
+    let x = c .before .before .before .before .before .before .before .before .before .before .before .before .before .before .before .before .before .before .before .before .before .before .before .before .before .before .before .before .before in
     let found = x .pre .0 .2 in
-    let marked = c .before .before .before .before .before .before .before .before .before .before .before .write-model .ensures in
-    let states = c .before .before .before .before .before .before .before .before .before .before .before .before .before .before .before .before .before .before .before .before .before .before .write-states .ensures ∙ ap (λ (l : List ℕ). written l (x .args .states .now)) found in
-    let tables = c .before .before .before .before .before .before .before .before .before .before .before .before .before .before .before .before .before .before .write-tables .ensures in
-    let verdicts = c .before .before .before .write-open .ensures in
+    let results = c .before .before .before .before .before .write-results .ensures in
+    let states = c .before .before .before .before .before .before .before .before .before .before .before .before .before .before .before .before .before .write-states .ensures ∙ ap (λ (l : List ℕ). written l (x .args .states .now)) found in
+    let tables = c .before .before .before .before .before .before .before .before .before .before .before .before .before .write-tables .ensures in
     λ i.
     record {
       answer = c .no-refusal .ensures i;
       states = length (found i);
-      atoms = marked .1 i;
-      rounds = marked .2 i;
-      after = record { states = states i; tables = tables i; marks = marked .0 i; verdicts = verdicts i };
+      atoms = results .0 .1 i;
+      rounds = results .0 .2 i;
+      after = record { states = states i; tables = tables i; marks = results .0 .0 i; verdicts = results .1 i };
     }
 
 pub fill-spec : {M : Type 1} → statement M
@@ -126,12 +109,9 @@ fill-spec =
     starts-of-requires-2
     write-states-requires
     write-tables-requires
-    slice-aggregate-write-model
-    slice-aggregate-write-model-2
-    write-model-requires
-    slice-aggregate-write-open
-    slice-aggregate-write-open-2
-    write-open-requires
+    slice-aggregate-write-results
+    slice-aggregate-write-results-2
+    write-results-requires
     no-refusal-requires
     same-length
     same-length-2

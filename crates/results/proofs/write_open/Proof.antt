@@ -6,13 +6,13 @@ use native.Mathlib.Nat.{le-trans}
 use lib.Dec.{lit≤}
 use lib.ListN.{length, take, drop}
 use lib.Seq.{length-take-le}
-use Rattle.results.proofs.Handing.{few-states, few-preds, fit-preds, handed-asking, handed-queries, handed-count, handed-needed, handed-verdicts, marks-room, marks-are}
+use Rattle.results.proofs.Handing.{few-states, few-preds, fit-preds, handed-asking, handed-queries, handed-short, handed-count, handed-needed, handed-verdicts, marks-room, marks-are}
 use borrow.Author.Needs.{needs}
 use Rattle.results.proofs.write_open.Statement.{statement}
 use Rattle.results.proofs.write_open.Tie as tie
 
 cells-of-requires : tie.Need-cells-of-requires
-cells-of-requires c κs = let h = c .before .before .before .before .before .before .before .before .before .before .before .pre .0 in (few-states h, le-trans (few-preds h) (lit≤ tt), fit-preds h)
+cells-of-requires c κs = let h = c .before .before .before .before .before .before .before .before .before .before .before .before .pre .0 .0 in (few-states h, le-trans (few-preds h) (lit≤ tt), fit-preds h)
 
 array-read-write-verdicts : tie.Need-array-read-write-verdicts
 array-read-write-verdicts c = search needs
@@ -25,17 +25,21 @@ array-read-write-verdicts-3 c = search needs
 
 slice-aggregate-write-verdicts : tie.Need-slice-aggregate-write-verdicts
 slice-aggregate-write-verdicts c =
-    let p = c .before .before .before .before .before .before .before .before .before .before .before .before .before .before .pre in
-    sym (length-take-le (c .before .before .cells-of .result) (c .before .before .before .before .before .before .before .before .before .before .before .before .before .before .args .marks .now) (marks-room (p .0) (p .2) (c .before .before .cells-of .ensures)))
+    let x = c .before .before .before .before .before .before .before .before .before .before .before .before .before .before .before in
+    let size = c .before .before .cells-of in
+    sym (length-take-le (size .result) (x .args .marks .now) (marks-room (x .pre .0 .0) (x .pre .0 .2) (size .ensures)))
 
 write-verdicts-requires : tie.Need-write-verdicts-requires
 write-verdicts-requires c κs =
-    let x = c .before .before .before .before .before .before .before .before .before .before .before .before .before .before in
-    let h = x .pre .0 in (
-      handed-asking h (x .args .found .now) (take (c .before .before .cells-of .result) (x .args .marks .now)) (x .pre .1) (marks-are h (x .pre .2) (c .before .before .cells-of .ensures)),
-      subst (λ (n : ℕ). n ≤ length (x .args .verdicts .now)) (handed-needed h) (x .pre .3),
+    let x = c .before .before .before .before .before .before .before .before .before .before .before .before .before .before .before in
+    let p = x .pre .0 in
+    let h = p .0 in
+    let size = c .before .before .cells-of in (
+      handed-asking h (x .args .found .now) (x .args .masks .now) (take (size .result) (x .args .marks .now)) (p .1) (marks-are h (p .2) (size .ensures)) (x .pre .1 .0) (x .pre .1 .1),
+      subst (λ (n : ℕ). n ≤ length (x .args .verdicts .now)) (handed-needed h) (p .3),
       handed-count h,
       handed-queries h,
+      handed-short h,
     )
 
 same-length : tie.Need-same-length
@@ -43,11 +47,13 @@ same-length c = search needs
 
 returns : tie.Need-returns
 returns c =
-    let x = c .before .before .before .before .before .before .before .before .before .before .before .before .before .before .before .before .before in
-    let h = x .pre .0 in
+    let x = c .before .before .before .before .before .before .before .before .before .before .before .before .before .before .before .before .before .before in
+    let p = x .pre .0 in
+    let h = p .0 in
+    let size = c .before .before .before .before .before .cells-of in
     c .before .before .write-verdicts .ensures
     ∙ ap₂ (λ (l : List ℕ) (n : ℕ). l ++ drop n (x .args .verdicts .now))
-    (handed-verdicts h (x .args .found .now) (take (c .before .before .before .before .before .cells-of .result) (x .args .marks .now)) (x .pre .1) (marks-are h (x .pre .2) (c .before .before .before .before .before .cells-of .ensures)))
+    (handed-verdicts h (x .args .found .now) (take (size .result) (x .args .marks .now)) (p .1) (marks-are h (p .2) (size .ensures)))
     (sym (handed-needed h))
 
 pub write-open-spec : {M : Type 1} → statement M

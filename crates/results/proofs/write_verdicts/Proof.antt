@@ -1,11 +1,12 @@
 -- `results::write_verdicts` meets its contract: the first i places hold the verdicts of the first i queries, and the others stand from the position on.
 -- Assumes nothing.
-use Prim.Native.Nat.{ℕ, _-_, _<_}
+use Prim.Native.Nat.{ℕ, _-_, _≤_, _<_}
 use mathlib.Core.Path.{_≡_, refl, sym, ap, subst, _∙_}
 use mathlib.Core.List.{List, []}
 use lib.Dec.{T}
 use native.Mathlib.Omega.{arith}
 use lib.ListN.{length, drop, length-set}
+use Rattle.meaning.specs.Limits.{mostContent}
 use Rattle.meaning.specs.Types.{bit}
 use Rattle.meaning.specs.Contents.{isSome, readQuery}
 use Rattle.meaning.proofs.Lists.{All-getD}
@@ -16,18 +17,18 @@ use Rattle.results.proofs.write_verdicts.Statement.{statement}
 use Rattle.results.proofs.write_verdicts.Tie as tie
 
 abbrev Inv-loop : tie.InvT-loop
-Inv-loop verdicts₀ file from count types sets arities starts tables m preds segments marks at₀ i₀ verdicts at i =
+Inv-loop verdicts₀ file from count types sets arities starts tables m preds segments masks marks at₀ i₀ verdicts at i =
     (length verdicts ≡ length verdicts₀) × Read file count (contentsFrom count (drop from file)) (verdictIn types m sets arities tables preds marks) verdicts₀ verdicts at i
 
 abbrev μ-loop : tie.MeasureT-loop
-μ-loop verdicts₀ file from count types sets arities starts tables m preds segments marks at₀ i₀ verdicts at i =
+μ-loop verdicts₀ file from count types sets arities starts tables m preds segments masks marks at₀ i₀ verdicts at i =
     count - i
 
 loop-holds : tie.Need-loop-holds Inv-loop μ-loop
 loop-holds c =
-    let a = c .before .before .before .before .before .before .before .before .before .args in
+    let a = c .before .before .before .before .before .before .before .before .before .before .args in
     let zero-less : a .count - 0 ≡ a .count = omega arith in
-    (refl, record { inside = omega arith; number = c .before .before .before .before .before .before .before .before .before .pre .2; left = ap (λ (n : ℕ). contentsFrom n (drop (a .from) (a .file .now))) zero-less; is = refl })
+    (refl, record { inside = omega arith; number = c .before .before .before .before .before .before .before .before .before .before .pre .2; left = ap (λ (n : ℕ). contentsFrom n (drop (a .from) (a .file .now))) zero-less; is = refl })
 
 wide-requires : tie.Need-wide-requires Inv-loop μ-loop
 wide-requires c κs = tt
@@ -37,31 +38,33 @@ content-at-requires c κs = tt
 
 is-open-requires : tie.Need-is-open-requires Inv-loop μ-loop
 is-open-requires c κs =
-    let a = c .before .before .before .before .before .before .before .before .before .before .before .before .before .args in
-    let p = c .before .before .before .before .before .before .before .before .before .before .before .before .before .pre in
+    let a = c .before .before .before .before .before .before .before .before .before .before .before .before .before .before .args in
+    let p = c .before .before .before .before .before .before .before .before .before .before .before .before .before .before .pre in
     let loop = c .before .before .before .loop in
     let lt : loop .i < a .count = omega (arith, c .before .if1 .taken, c .before .before .wide .ensures) in
-    (p .0, subst (λ (s : List ℕ). T (isSome (readQuery (a .types) (a .arities .now) (a .preds .now) s))) (sym (content-is (a .file .now) (a .count) (contentsFrom (a .count) (drop (a .from) (a .file .now))) (verdictIn (a .types) (a .m) (a .sets .now) (a .arities .now) (a .tables .now) (a .preds .now) (a .marks .now)) (a .verdicts .now) lt (p .1) (loop .inv .1) (c .content-at .ensures .0))) (All-getD _ (contentsFrom (a .count) (drop (a .from) (a .file .now))) [] (p .3) (loop .i) (subst (λ (n : ℕ). loop .i < n) (sym (p .2)) lt)))
+    let here = (content-is (a .file .now) (a .count) (contentsFrom (a .count) (drop (a .from) (a .file .now))) (verdictIn (a .types) (a .m) (a .sets .now) (a .arities .now) (a .tables .now) (a .preds .now) (a .marks .now)) (a .verdicts .now) lt (p .1) (loop .inv .1) (c .content-at .ensures .0)) in
+    let at = (subst (λ (n : ℕ). loop .i < n) (sym (p .2)) lt) in
+    (p .0, subst (λ (s : List ℕ). T (isSome (readQuery (a .types) (a .arities .now) (a .preds .now) s))) (sym here) (All-getD _ (contentsFrom (a .count) (drop (a .from) (a .file .now))) [] (p .3) (loop .i) at), subst (λ (s : List ℕ). length s ≤ mostContent) (sym here) (All-getD (λ (s : List ℕ). length s ≤ mostContent) (contentsFrom (a .count) (drop (a .from) (a .file .now))) [] (p .4) (loop .i) at))
 
 byte-requires : tie.Need-byte-requires Inv-loop μ-loop
 byte-requires c κs = tt
 
 slice-write-verdicts : tie.Need-slice-write-verdicts Inv-loop μ-loop
-slice-write-verdicts c = omega (arith, c .before .before .before .before .before .loop .inv .0, c .before .before .before .before .before .before .before .before .before .before .before .before .before .before .before .pre .1, c .before .before .before .if1 .taken, c .before .before .before .before .wide .ensures)
+slice-write-verdicts c = omega (arith, c .before .before .before .before .before .loop .inv .0, c .before .before .before .before .before .before .before .before .before .before .before .before .before .before .before .before .pre .1, c .before .before .before .if1 .taken, c .before .before .before .before .wide .ensures)
 
 next-at-requires : tie.Need-next-at-requires Inv-loop μ-loop
 next-at-requires c κs = tt
 
 add-i : tie.Need-add-i Inv-loop μ-loop
-add-i c = omega (arith, c .before .before .before .before .before .before .before .before .before .before .before .before .before .before .before .before .pre .1, c .before .before .before .before .if1 .taken, c .before .before .before .before .before .wide .ensures)
+add-i c = omega (arith, c .before .before .before .before .before .before .before .before .before .before .before .before .before .before .before .before .before .pre .1, c .before .before .before .before .if1 .taken, c .before .before .before .before .before .wide .ensures)
 
 loop-less : tie.Need-loop-less Inv-loop μ-loop
 loop-less c = omega (arith, c .before .before .before .before .if1 .taken, c .before .before .before .before .before .wide .ensures)
 
 loop-again : tie.Need-loop-again Inv-loop μ-loop
 loop-again c =
-    let a = c .before .before .before .before .before .before .before .before .before .before .before .before .before .before .before .before .args in
-    let p = c .before .before .before .before .before .before .before .before .before .before .before .before .before .before .before .before .pre in
+    let a = c .before .before .before .before .before .before .before .before .before .before .before .before .before .before .before .before .before .args in
+    let p = c .before .before .before .before .before .before .before .before .before .before .before .before .before .before .before .before .before .pre in
     let loop = c .before .before .before .before .before .before .loop in
     let lt : loop .i < a .count = omega (arith, c .before .before .before .before .if1 .taken, c .before .before .before .before .before .wide .ensures) in
     (length-set (loop .verdicts) (loop .i) _ ∙ loop .inv .0, read-on (a .file .now) (a .count) (contentsFrom (a .count) (drop (a .from) (a .file .now))) (verdictIn (a .types) (a .m) (a .sets .now) (a .arities .now) (a .tables .now) (a .preds .now) (a .marks .now)) (a .verdicts .now) lt (p .1) (loop .inv .1) (c .before .before .before .content-at .ensures .0) (c .before .byte .ensures ∙ ap bit (c .before .before .is-open .ensures)) (c .next-at .ensures))
@@ -71,7 +74,7 @@ same-length c = c .before .before .loop .inv .0
 
 returns : tie.Need-returns Inv-loop μ-loop
 returns c =
-    let a = c .before .before .before .before .before .before .before .before .before .before .before .before .args in
+    let a = c .before .before .before .before .before .before .before .before .before .before .before .before .before .args in
     read-all (a .file .now) (a .count) (contentsFrom (a .count) (drop (a .from) (a .file .now))) (verdictIn (a .types) (a .m) (a .sets .now) (a .arities .now) (a .tables .now) (a .preds .now) (a .marks .now)) (a .verdicts .now) (omega (arith, c .if1 .left, c .before .wide .ensures)) (c .before .before .loop .inv .1)
 
 pub write-verdicts-spec : {M : Type 1} → statement M
