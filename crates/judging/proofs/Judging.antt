@@ -26,7 +26,7 @@ use Rattle.refusals.specs.Tests.{earlierIn}
 use Rattle.accept.specs.declared.Answer.{Answer}
 use Rattle.accept.specs.Accepted.{answered}
 use Rattle.rules.proofs.Limits.{predicates-known}
-use Rattle.instances.specs.Partial.{lookUp}
+use Rattle.stages.specs.Tables.{lookUp}
 use Rattle.stages.specs.Search.{clausesIn}
 use Rattle.results.specs.Handed.{Handed}
 use Rattle.results.proofs.Handing.{few-states, few-preds, narrow-preds, handed-violations}

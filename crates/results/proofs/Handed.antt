@@ -33,8 +33,8 @@ use Rattle.refusals.proofs.Knowing.{count-of, known-types, known-symbols, known
 use Rattle.rules.proofs.Whole.{well, knows-all, earlier, reads}
 use Rattle.rules.proofs.Limits.{accepted-read, accepted-few, predicates-few, predicates-small, states-some, predicates-known, predicates-count, predicates-length}
 use Rattle.accept.proofs.Ready.{limited}
-use Rattle.instances.specs.Partial.{lookUp, Setting}
-use Rattle.instances.proofs.Tables.{lookUp-tables, range-states}
+use Rattle.stages.specs.Tables.{lookUp, Setting}
+use Rattle.stages.proofs.Tables.{lookUp-tables, range-states}
 use Rattle.stages.specs.Search.{clauseOf, clausesIn, Readable}
 use Rattle.stages.specs.Programs.{noAtom}
 use Rattle.verdicts.specs.Asking.{queryOf}
@@ -171,12 +171,11 @@ module _ (file : List ℕ) (known : Known) (e : fileAnswer file ≡ accepted) (k
 
     -- a start for each symbol, and one for each predicate
     module _ (starts segments : List ℕ) (wide : length (knownSymbols known) ≤ length starts) (begins : (f : ℕ) → f < length (knownSymbols known) → getD starts f 0 ≡ start m (knownSymbols known) f) where
-      pub setting : Setting m (knownSymbols known) starts table []
+      pub setting : Setting m (knownSymbols known) starts table
       unfolding tablesOf
       setting =
           record {
             few = few;
-            narrow = narrow-symbols;
             enough = wide;
             started = begins;
             room =
@@ -184,7 +183,6 @@ module _ (file : List ℕ) (known : Known) (e : fileAnswer file ≡ accepted) (k
                 let same : cells m (knownSymbols known) ≡ cells m (symbolArities file) = ap (cells m) symbols-are in
                 omega (arith, size, same, length-append (tablesOf file) (drop (length (tablesOf file)) buffer));
             states = range-states m (knownSymbols known) table table-range;
-            valued = tt;
           }
 
       module _ (many : length (knownPredicates known) ≤ length segments) (parts : (p : ℕ) → p < length (knownPredicates known) → getD segments p 0 ≡ start m (knownPredicates known) p) where

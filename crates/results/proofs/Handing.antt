@@ -18,7 +18,7 @@ use Rattle.refusals.specs.declared.Known.{Known}
 use Rattle.refusals.specs.Tests.{knownTypes, knownSymbols, knownPredicates, earlierIn}
 use Rattle.rules.proofs.Limits.{accepted-read, accepted-few}
 use Rattle.accept.proofs.Ready.{limited}
-use Rattle.instances.specs.Partial.{lookUp}
+use Rattle.stages.specs.Tables.{lookUp}
 use Rattle.stages.specs.Masks.{stageMasks, bothMasks}
 use Rattle.stages.specs.Programs.{codeSize, planSize}
 use Rattle.stages.proofs.Empty.{room, zeros}

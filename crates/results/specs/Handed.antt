@@ -15,7 +15,7 @@ use Rattle.meaning.specs.Calls.{statesOf, tablesOf, written}
 use Rattle.refusals.specs.declared.Known.{Known}
 use Rattle.refusals.specs.Known.{Knows, fieldsRead}
 use Rattle.refusals.specs.Tests.{knownSymbols, knownPredicates}
-use Rattle.instances.specs.Partial.{lookUp}
+use Rattle.stages.specs.Tables.{lookUp}
 use Rattle.stages.specs.Masks.{stageMasks, bothMasks}
 use Rattle.stages.specs.Programs.{codeSize, planSize}
 use Rattle.verdicts.specs.Asking.{queryOf}
