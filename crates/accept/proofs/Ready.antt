@@ -6,8 +6,7 @@ use native.Mathlib.Omega.{arith}
 use lib.Dec.{T, lit<}
 use lib.ListN.{length, length-append, length-map, getD}
 use Rattle.meaning.specs.Lists.{All}
-use Rattle.states.proofs.Tables.{cells-most}
-use Rattle.meaning.specs.Limits.{mostStates, symbol, type, production, mostOf, mostSymbolArity}
+use Rattle.meaning.specs.Limits.{symbol, type, production, mostOf, mostSymbolArity}
 use Rattle.meaning.specs.Fields.{Field, fields, contentsOf}
 use Rattle.meaning.specs.Contents.{isProduction}
 use Rattle.meaning.specs.Refusals.{accepted, contents, aritiesIn, typesIn, firstByte}
@@ -105,7 +104,3 @@ module _ (file : List ℕ) (known : Known) (e : readAnswer file ≡ accepted) (k
   pub tables-length : length (tablesOf file) ≡ cells (length (statesOf file)) (knownSymbols known)
   tables-length =
       ap length (sym tables-are) ∙ length-tables (step (map productionOf (earlierIn file known 3)) (knownTypes known)) (statesOf file) (knownSymbols known)
-
-  -- 24 symbols of arity 2 over 16 states have the most cells
-  pub tables-fit : length (statesOf file) ≤ mostStates → length (tablesOf file) ≤ 6144
-  tables-fit few = omega (arith, tables-length, limited .symbols, cells-most (length (statesOf file)) (knownSymbols known) few (limited .small))

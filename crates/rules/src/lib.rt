@@ -7,7 +7,7 @@ ghost use mathlib.Core.Path.{_≡_};
 ghost use mathlib.Core.Bool.{not};
 ghost use mathlib.Core.List.{List, [], _∷_, _++_};
 ghost use lib.Dec.{T};
-ghost use lib.ListN.{length, getD, set};
+ghost use lib.ListN.{length, getD};
 ghost use Rattle.meaning.specs.Lists.{All};
 ghost use Rattle.meaning.specs.Fields.{Field, whole};
 ghost use Rattle.meaning.specs.Refusals.{firstByte, isCut, ok, refuseIf, noConstant};

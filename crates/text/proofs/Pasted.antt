@@ -21,11 +21,7 @@ module _ (out : List ℕ) (at : ℕ) (bytes : List ℕ) where
   unfolding pasted
   length-pasted fits = simp (length-append, length-take, length-drop) (omega arith)
 
-  -- what stands before the elements, up to their end, and after them
-  pub take-pasted-before : at ≤ length out → take at (pasted out at bytes) ≡ take at out
-  unfolding pasted
-  take-pasted-before within = take-at (take at out) (bytes ++ drop (at + length bytes) out) at (length-take-le at out within)
-
+  -- what stands up to the elements' end, and after them
   front : at ≤ length out → length (take at out ++ bytes) ≡ at + length bytes
   front within = length-append (take at out) bytes ∙ ap (λ (k : ℕ). k + length bytes) (length-take-le at out within)
 
