@@ -5,6 +5,7 @@
 //!
 //!     bench [--without-slow]
 //!     bench files [name ..]
+//!     bench before PROGRAM [name ..]     PROGRAM is a bench linked with an earlier library
 
 mod family;
 mod flat;
@@ -13,13 +14,18 @@ mod rows;
 mod seminaive;
 
 use reference::Accepted;
+use std::borrow::Borrow;
 use std::io::Read;
-use std::path::Path;
+use std::path::{Path, PathBuf};
 use std::process::{Child, Command, Stdio};
 use std::time::{Duration, Instant};
 
 const LIMIT: Duration = Duration::from_secs(20);
 const SLOW_LIMIT: Duration = Duration::from_secs(150);
+
+/// How often the programs are run in turn, and how long one may take to be run again.
+const TURNS: usize = 4;
+const SHORT: Duration = Duration::from_secs(1);
 
 const FILES: [&str; 8] = [
     "e",
@@ -94,11 +100,10 @@ fn print_least(work: Program, file: &[u8]) {
 }
 
 /// The least time of a program for a file, and its answer, if it ends within the limit.
-fn least(who: &str, file: &Path, limit: Duration) -> Option<(Duration, String)> {
-    let own = std::env::current_exe().expect("this program has a path");
-    let mut command = Command::new(own);
+fn least(bench: &Path, who: &str, file: &Path, limit: Duration) -> Option<(Duration, String)> {
+    let mut command = Command::new(bench);
     command.arg(who).arg(file).stdout(Stdio::piped());
-    let mut child = command.spawn().expect("this program starts again");
+    let mut child = command.spawn().expect("the bench starts again");
     if !ends(&mut child, limit) {
         return None;
     }
@@ -143,14 +148,19 @@ impl Time {
     }
 }
 
-/// The times of the programs for a file, and the answer if one has ended; ends the run if two
-/// have given different ones.
-fn times(name: &str, file: &[u8], limit: Duration) -> ([Time; 4], Option<String>) {
+/// The times of some programs of a bench for a file, in turns, since the machine may change its
+/// speed, and the answer if one has ended; ends the run if two have given different ones.
+fn times<const N: usize>(
+    name: &str,
+    programs: [(&Path, &str); N],
+    file: &[u8],
+    limit: Duration,
+) -> ([Time; N], Option<String>) {
     let path = std::env::temp_dir().join(format!("rules-bench-{}.rules", std::process::id()));
     std::fs::write(&path, file).expect("a file is written");
     let mut given: Option<(&str, String)> = None;
-    let times = PROGRAMS.map(|(who, _)| {
-        let (taken, answer) = least(who, &path, limit).unzip();
+    let mut once = |(bench, who)| {
+        let (taken, answer) = least(bench, who, &path, limit).unzip();
         match (&given, answer) {
             (Some((other, first)), Some(answer)) if *first != answer => {
                 eprintln!("bench: {name}: {who} gives {answer}, but {other} {first}");
@@ -160,9 +170,22 @@ fn times(name: &str, file: &[u8], limit: Duration) -> ([Time; 4], Option<String>
             _ => {}
         }
         Time { taken, limit }
-    });
+    };
+    let mut times = programs.map(&mut once);
+    for _ in 1..TURNS {
+        for (time, program) in times.iter_mut().zip(programs) {
+            if time.taken.is_some_and(|taken| taken < SHORT) {
+                *time = time.better(once(program));
+            }
+        }
+    }
     let _ = std::fs::remove_file(&path);
     (times, given.map(|(_, answer)| answer))
+}
+
+/// The path of this bench.
+fn own_path() -> PathBuf {
+    std::env::current_exe().expect("this program has a path")
 }
 
 /// What a table shows.
@@ -173,11 +196,17 @@ struct Table {
     gringo: bool,
 }
 
-impl Table {
-    fn print(self, cells: &[String]) {
-        println!("| {} |", cells.join(" | "));
-    }
+fn print_row<T: Borrow<str>>(cells: &[T]) {
+    println!("| {} |", cells.join(" | "));
+}
 
+fn print_heading(cells: &[&str]) {
+    println!();
+    print_row(cells);
+    println!("|{}", "---|".repeat(cells.len()));
+}
+
+impl Table {
     fn heading(self, what: &str) {
         let mut cells = vec![what, "model", "library"];
         match self.both {
@@ -188,18 +217,13 @@ impl Table {
         if self.gringo {
             cells.extend(["gringo", "ratio"]);
         }
-        println!();
-        self.print(
-            &cells
-                .iter()
-                .map(|cell| cell.to_string())
-                .collect::<Vec<_>>(),
-        );
-        println!("|{}", "---|".repeat(cells.len()));
+        print_heading(&cells);
     }
 
     fn measure(self, name: &str, file: &[u8], limit: Duration) {
-        let ([library, seminaive, rows, reference], answer) = times(name, file, limit);
+        let own = own_path();
+        let programs = PROGRAMS.map(|(who, _)| (own.as_path(), who));
+        let ([library, seminaive, rows, reference], answer) = times(name, programs, file, limit);
         let better = seminaive.better(rows);
         let mut cells = vec![name.to_string(), model(answer.as_deref()), library.shown()];
         match self.both {
@@ -214,7 +238,7 @@ impl Table {
             let gringo = Time { taken, limit };
             cells.extend([gringo.shown(), library.ratio(gringo)]);
         }
-        self.print(&cells);
+        print_row(&cells);
     }
 }
 
@@ -227,18 +251,44 @@ fn model(answer: Option<&str>) -> String {
     }
 }
 
-fn print_files(gringo: bool, names: &[&str]) {
+/// A file of rules/bench, and how long a program may take for it.
+fn bench_file(name: &str) -> (Vec<u8>, Duration) {
     let folder = Path::new(env!("CARGO_MANIFEST_DIR")).join("../../../rules/bench");
+    let file = std::fs::read(folder.join(name).with_extension("rules")).expect("a bench file");
+    match SLOW.contains(&name) {
+        true => (file, SLOW_LIMIT),
+        false => (file, LIMIT),
+    }
+}
+
+fn print_files(gringo: bool, names: &[&str]) {
     let table = Table { both: true, gringo };
     table.heading("file");
     for name in names {
-        let file = std::fs::read(folder.join(name).with_extension("rules")).expect("a bench file");
-        let limit = if SLOW.contains(name) {
-            SLOW_LIMIT
-        } else {
-            LIMIT
-        };
+        let (file, limit) = bench_file(name);
         table.measure(name, &file, limit);
+    }
+}
+
+/// An earlier library, by a bench that is linked with it, beside this one and the plain programs.
+fn print_before(earlier: &Path, names: &[&str]) {
+    let heading = ["file", "before", "after", "ratio", "better plain", "ratio"];
+    print_heading(&heading);
+    let own = own_path();
+    let ours = ["library", "seminaive", "rows"].map(|who| (own.as_path(), who));
+    let programs = [(earlier, "library"), ours[0], ours[1], ours[2]];
+    for name in names {
+        let (file, limit) = bench_file(name);
+        let ([before, after, seminaive, rows], _) = times(name, programs, &file, limit);
+        let better = seminaive.better(rows);
+        print_row(&[
+            name.to_string(),
+            before.shown(),
+            after.shown(),
+            after.ratio(before),
+            better.shown(),
+            after.ratio(better),
+        ]);
     }
 }
 
@@ -290,13 +340,17 @@ fn main() {
         }
         ["files"] => print_files(has_gringo(), &FILES),
         ["files", names @ ..] => print_files(has_gringo(), names),
+        ["before", earlier] => print_before(Path::new(earlier), &FILES),
+        ["before", earlier, names @ ..] => print_before(Path::new(earlier), names),
         [who, path] if work(who).is_some() => {
             let file = std::fs::read(path).expect("the file is read");
             work(who)
                 .into_iter()
                 .for_each(|program| print_least(program.1, &file));
         }
-        _ => eprintln!("bench [--without-slow], or bench files [name ..]"),
+        _ => eprintln!(
+            "bench [--without-slow], bench files [name ..], or bench before PROGRAM [name ..]"
+        ),
     }
 }
 

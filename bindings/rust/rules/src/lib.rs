@@ -2,7 +2,7 @@
 //! ([`write_sheet`]), check anybody's certificate ([`check_sheet`]). The `_into` forms take the
 //! caller's buffers, and then nothing is allocated.
 //!
-//! A call needs about 200 kB of stack.
+//! A call uses at most 256 kB of stack.
 
 mod needs;
 pub mod raw;
