@@ -48,7 +48,7 @@ fn open(accepted: &Accepted, model: &[u8], Query { conditions, atom }: &Query) -
 fn every_giving() {
     let data = Path::new(env!("CARGO_MANIFEST_DIR")).join("../../../crates/vectors/data");
     let mut played = 0;
-    for folder in ["base", "full", "more"] {
+    for folder in ["base", "full", "made", "pass"] {
         for entry in fs::read_dir(data.join(folder)).expect("a folder of vectors") {
             let path = entry.expect("an entry").path();
             if path.extension().is_none_or(|end| end != "rules") {
