@@ -15,15 +15,15 @@ use Rattle.meaning.specs.Files.{readAnswer, fileAnswer}
 use Rattle.meaning.specs.Calls.{statesOf, symbolArities}
 use Rattle.meaning.proofs.Lists.{T-of, T-not-of}
 use Rattle.meaning.proofs.Answers.{then-next, then-first, if-yes, if-no}
-use Rattle.refusals.specs.declared.Verdict.{Verdict}
-use Rattle.refusals.specs.declared.Verdict.the-variants.{Accepted, TooLong, Cut, WrongTag, Malformed, NameTaken, TooMany, NoConstant}
-use Rattle.refusals.specs.Verdict.{answerOf}
+use Rattle.refusals.specs.declared.Refusal.{Refusal}
+use Rattle.refusals.specs.declared.Refusal.the-variants.{None, TooLong, Cut, WrongTag, Malformed, NameTaken, TooMany, NoConstant}
+use Rattle.refusals.specs.Refusal.{answerOf}
 use Rattle.states.specs.Packed.{packed}
 use Rattle.accept.specs.Accepted.{statesGiven}
 
--- a verdict without a number accepts
-pub accepts : (v : Verdict) → answerOf v .number ≡ 0 → answerOf v ≡ accepted
-accepts Accepted e = refl
+-- a refusal without a number is none
+pub accepts : (v : Refusal) → answerOf v .number ≡ 0 → answerOf v ≡ accepted
+accepts None e = refl
 accepts TooLong e = absurd (omega arith)
 accepts (Cut k) e = absurd (omega arith)
 accepts (WrongTag k) e = absurd (omega arith)

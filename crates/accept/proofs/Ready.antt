@@ -18,7 +18,7 @@ use Rattle.meaning.specs.Files.{readAnswer, statesFor, productionOf}
 use Rattle.meaning.specs.Calls.{statesOf, tablesOf, symbolArities, stepOf}
 use Rattle.meaning.proofs.Lists.{All-map}
 use Rattle.meaning.proofs.Contents.{isNamed-exact}
-use Rattle.meaning.proofs.ByKind.{Rising, rising-byTag}
+use Rattle.meaning.proofs.ByKind.{TagsRise, rising-byTag}
 use Rattle.meaning.proofs.States.{length-tables}
 use Rattle.meaning.proofs.Acceptance.{All-over, read-productions}
 use Rattle.refusals.specs.declared.Known.{Known}
@@ -32,7 +32,7 @@ use Rattle.states.specs.Asked.{Limited}
 use Rattle.accept.specs.Accepted.{fieldsKnown}
 
 -- fields with rising tags are as many as there are of the six kinds
-rising-length : (fs : List Field) → Rising 1 7 fs
+rising-length : (fs : List Field) → TagsRise 1 7 fs
     → length fs ≡ length (contentsOf 1 fs) + length (contentsOf 2 fs) + length (contentsOf 3 fs) + length (contentsOf 4 fs) + length (contentsOf 5 fs) + length (contentsOf 6 fs)
 rising-length fs h = ap length (rising-byTag 6 1 7 fs (omega arith) h) ∙ simp (length-append, length-map) (omega arith)
 

@@ -1,6 +1,6 @@
 // A rule file accepted, or refused with 1 to 8: read, and its states found. What every public call starts with.
 use refusals::Known;
-use refusals::Verdict;
+use refusals::Refusal;
 use states::Count;
 use states::States;
 ghost use mathlib.Core.Path.{_≡_};
@@ -11,7 +11,7 @@ ghost use Rattle.meaning.specs.Refusals.{accepted, refused};
 ghost use Rattle.meaning.specs.Files.{readAnswer, fileAnswer};
 ghost use Rattle.meaning.specs.Calls.{statesOf, tablesOf, written};
 ghost use Rattle.refusals.specs.Known.{Knows, fieldsRead};
-ghost use Rattle.refusals.specs.Verdict.{answerOf};
+ghost use Rattle.refusals.specs.Refusal.{answerOf};
 ghost use Rattle.states.specs.Packed.{packed};
 ghost use Rattle.accept.specs.Accepted.{answered, fieldsKnown, statesGiven};
 
@@ -50,19 +50,19 @@ pub fn refusal(number: usize, place: usize) -> Answer
     Answer { number, place }
 }
 
-// The number and place of a verdict.
-fn answer_of(v: Verdict) -> Answer
+// The number and place of a refusal.
+fn answer_of(v: Refusal) -> Answer
     ensures { λ r. ⌜ answered r ≡ answerOf v ⌝ }
 {
     match v {
-        Verdict::Accepted => no_refusal(),
-        Verdict::TooLong => refusal(1, 0),
-        Verdict::Cut(k) => refusal(2, k),
-        Verdict::WrongTag(k) => refusal(3, k),
-        Verdict::Malformed(k) => refusal(4, k),
-        Verdict::NameTaken(k) => refusal(5, k),
-        Verdict::TooMany(k) => refusal(6, k),
-        Verdict::NoConstant(k) => refusal(7, k),
+        Refusal::None => no_refusal(),
+        Refusal::TooLong => refusal(1, 0),
+        Refusal::Cut(k) => refusal(2, k),
+        Refusal::WrongTag(k) => refusal(3, k),
+        Refusal::Malformed(k) => refusal(4, k),
+        Refusal::NameTaken(k) => refusal(5, k),
+        Refusal::TooMany(k) => refusal(6, k),
+        Refusal::NoConstant(k) => refusal(7, k),
     }
 }
 
@@ -101,8 +101,8 @@ pub fn accept(file: &[u8]) -> Acceptance
 {
     let reading = rules::read(file);
     let known = reading.known;
-    let verdict = reading.verdict;
-    let answer = answer_of(verdict);
+    let found = reading.refusal;
+    let answer = answer_of(found);
     if answer.number != 0 {
         let states = no_states();
         return Acceptance {

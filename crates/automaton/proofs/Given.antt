@@ -11,7 +11,7 @@ use lib.Dec.{T, eqb, ltb, eqb→eq, eqb-refl, lt→ltb}
 use lib.Pow.{pow-pos, pow-mono}
 use lib.ListN.{length, getD, take, drop, replicate, length-append, length-replicate, getD-replicate, List·getD-append, take-append-drop}
 use lib.Seq.{ext-getD, getD-take, length-take-le, getD-append-add, drop-at}
-use Rattle.meaning.specs.Lists.{All, any, joined}
+use Rattle.meaning.specs.Lists.{All, anyOf, joined}
 use Rattle.meaning.specs.Syntax.{Production}
 use Rattle.meaning.specs.Types.{has, fits, step, numbered}
 use Rattle.meaning.specs.States.{setsAt, reached}
@@ -209,9 +209,9 @@ module _ (states arities : List ℕ) where
         adds : ℕ → Production → Bool
         adds t p = eqb (p .target) t && eqb (p .symbol) f && fits (setsAt states row) (p .arguments)
 
-        has-step : (t : ℕ) → has (step ps types f (setsAt states row)) t ≡ (ltb t types && any (adds t) ps)
+        has-step : (t : ℕ) → has (step ps types f (setsAt states row)) t ≡ (ltb t types && anyOf (adds t) ps)
         unfolding step adds
-        has-step t = has-setOf types (λ q. any (adds q) ps) t
+        has-step t = has-setOf types (λ q. anyOf (adds q) ps) t
 
         end-step : (t : ℕ) → T (has (getD end at 0) t) → T (has (step ps types f (setsAt states row)) t)
         unfolding at adds
@@ -227,14 +227,14 @@ module _ (states arities : List ℕ) where
             let names : T (eqb (p .target) t && eqb (p .symbol) f) =
             both-of (eqb (p .target) t) (eqb (p .symbol) f) (eq-T (p .target) t (sym (gives .type-is))) (eq-T (p .symbol) f (same .0)) in
             subst T (sym (has-step t))
-            (both-of (ltb t types) (any (adds t) ps) (lt→ltb t types lt)
+            (both-of (ltb t types) (anyOf (adds t) ps) (lt→ltb t types lt)
             (any-give (adds t) ps p (w .1) (both-of (eqb (p .target) t && eqb (p .symbol) f) (fits (setsAt states row) (p .arguments)) names fit))))
             (all-has ps (cleared sets (cells (length states) arities)) at t h)
 
         step-end : (t : ℕ) → T (has (step ps types f (setsAt states row)) t) → T (has (getD end at 0) t)
         unfolding at adds
         step-end t h =
-            let found = any-find (adds t) ps (both (ltb t types) (any (adds t) ps) (subst T (has-step t) h) .1) in
+            let found = any-find (adds t) ps (both (ltb t types) (anyOf (adds t) ps) (subst T (has-step t) h) .1) in
             let p = found .0 in
             let w = both (eqb (p .target) t && eqb (p .symbol) f) (fits (setsAt states row) (p .arguments)) (found .2) in
             let names = both (eqb (p .target) t) (eqb (p .symbol) f) (w .0) in

@@ -6,7 +6,7 @@ use mathlib.Core.List.{List, [], _∷_, _++_, Memᴰ·cast}
 use mathlib.Core.Option.{Option, none, some}
 use lib.Dec.{T, eqb, eqb→eq, ltb, ltb→lt}
 use lib.ListN.{length, replicate, length-replicate}
-use Rattle.meaning.specs.Lists.{All, all, any, anyBelow, same, lowest}
+use Rattle.meaning.specs.Lists.{All, allOf, anyOf, anyBelow, same, lowest}
 use Rattle.meaning.specs.Syntax.{Clause}
 use Rattle.meaning.specs.Limits.{atomTag}
 use Rattle.meaning.specs.Fields.{Field, whole, cut, fields, contentsOf, firstField}
@@ -83,7 +83,7 @@ module _ (m : ℕ) (preds : List ℕ) where
       → IsSheetAtom m preds content
   sheet-atom before [] t u = absurd t
   sheet-atom before (p ∷ row) t u =
-      (declared-exact preds p (length row) .0 t, All-map row (λ d lt. ltb→lt d m lt) (all-facts (λ d. ltb d m) row (not-not (all (λ d. ltb d m) row) (neither (not (all (λ d. ltb d m) row)) (any (same (p ∷ row)) (contentsOf atomTag before)) u .0))))
+      (declared-exact preds p (length row) .0 t, All-map row (λ d lt. ltb→lt d m lt) (all-facts (λ d. ltb d m) row (not-not (allOf (λ d. ltb d m) row) (neither (not (allOf (λ d. ltb d m) row)) (anyOf (same (p ∷ row)) (contentsOf atomTag before)) u .0))))
 
   sheet-atoms : (before fs : List Field) → NoField (misplaced preds) before fs → NoField (wrongAtom m) before fs → All (IsSheetAtom m preds) (contentsOf atomTag fs)
   sheet-atoms before [] h k = tt
@@ -144,7 +144,7 @@ atoms-same : (m : ℕ) (interpret : ℕ → List ℕ → ℕ) (xs ys : List (Lis
     → violatedAt m interpret xs clauses i ≡ violatedAt m interpret ys clauses i
 unfolding violated
 atoms-same m interpret xs ys h [] i = refl
-atoms-same m interpret xs ys h (c ∷ clauses) zero = λ j. anyBelow (m ^ c .variables) (λ n. all (instanceIn interpret (rowOf m (c .variables) n) (λ p row. h p row j)) (c .body) && not (instanceIn interpret (rowOf m (c .variables) n) (λ p row. h p row j) (c .head)))
+atoms-same m interpret xs ys h (c ∷ clauses) zero = λ j. anyBelow (m ^ c .variables) (λ n. allOf (instanceIn interpret (rowOf m (c .variables) n) (λ p row. h p row j)) (c .body) && not (instanceIn interpret (rowOf m (c .variables) n) (λ p row. h p row j) (c .head)))
 atoms-same m interpret xs ys h (c ∷ clauses) (suc i) = atoms-same m interpret xs ys h clauses i
 
 module _ {file : List ℕ} {known : Known} {found symbols preds starts segments tables : List ℕ} (h : Handed file known symbols preds (length found) starts segments tables) (is : found ≡ statesOf file) (sheet : List ℕ) where

@@ -4,7 +4,7 @@ use Prim.Native.Nat.{ℕ}
 use mathlib.Core.Bool.{Bool}
 use mathlib.Core.List.{List, [], _∷_}
 use lib.Dec.{T}
-use Rattle.meaning.specs.Lists.{all, same}
+use Rattle.meaning.specs.Lists.{allOf, same}
 use Rattle.meaning.specs.Fields.{fields, firstField}
 use Rattle.meaning.specs.Contents.{termWithin, readTerms, readAtom, readAtoms, readClause, readConditions, readQuery}
 use Rattle.meaning.specs.Refusals.{refusal, firstRefused}
@@ -82,6 +82,6 @@ rows =
 holds : Row → Bool
 holds r = same (listing (r .file)) (r .prints)
 
-examples : T (all holds rows)
+examples : T (allOf holds rows)
 unfolding rows holds E printedE noType printedNoType rowOrder printedRowOrder printedEmpty printedCut fields firstField termWithin readTerms readAtom readAtoms readClause readConditions readQuery refusal firstRefused signature step determinise cellOf rulesIn rulesOf statesFor readAnswer fileAnswer brings next stage rounds model isOpen markedAtoms symbolArities predicateArities statesOf stepOf interpretationOf roundsOf modelOf atomsOf verdictOf verdictsOf digitsIn decimal numberAfter countLine countsLine refusedLine stateText namedText queryText statesLine stateLine modelLine atomLine queriesLine queryLine listing
 examples = tt

@@ -6,7 +6,7 @@ use mathlib.Core.List.{List, [], _∷_, map}
 use native.Mathlib.Omega.{arith}
 use lib.Dec.{T, leb, leb→le}
 use lib.ListN.{length, getD, drop, List·getD-append, List·getD-map}
-use Rattle.meaning.specs.Lists.{All, all}
+use Rattle.meaning.specs.Lists.{All, allOf}
 use Rattle.meaning.specs.Syntax as Syntax
 use Rattle.meaning.specs.Limits.{type, predicate, mostName, mostPredicateArity}
 use Rattle.meaning.specs.Fields.{fields}
@@ -30,7 +30,7 @@ name-short : (name : List ℕ) → T (isName name) → length name ≤ mostName
 name-short name t =
     let least = leb 1 (length name) in
     let most = leb (length name) mostName in
-    leb→le (length name) mostName (both least most (both (least && most) (all nameByte name) t .0) .1)
+    leb→le (length name) mostName (both least most (both (least && most) (allOf nameByte name) t .0) .1)
 
 named-some : (content : List ℕ) → T (isNamed mostPredicateArity content) → 1 ≤ length content
 named-some [] t = absurd t

@@ -11,7 +11,7 @@ use lib.Dec.{T, eqb, ltb, ltb→lt}
 use lib.ListN.{length, getD, take, drop, set, replicate, length-set, length-replicate, getD-replicate, List·getD-eq-default}
 use lib.Seq.{getD-set-same, getD-set-other}
 use borrow.Author.Tests.{eq-eqb, ne-eqb}
-use Rattle.meaning.specs.Lists.{all, All, same}
+use Rattle.meaning.specs.Lists.{allOf, All, same}
 use Rattle.meaning.specs.Legal.{Declared}
 use Rattle.meaning.specs.Limits.{atomTag}
 use Rattle.meaning.specs.Fields.{Field, whole, contentsOf}
@@ -38,8 +38,8 @@ content-declared : (preds content : List ℕ) → T (isAtomContent preds content
 content-declared preds [] t = absurd t
 content-declared preds (p ∷ row) t = declared-exact preds p (length row) .0 t
 
-all-below : (m : ℕ) (row : List ℕ) → all (λ d. ltb d m) row ≡ true → All (λ d. d < m) row
-all-below m row e = All-map row (λ d. ltb→lt d m) (all-facts (λ d. ltb d m) row (T-of (all (λ d. ltb d m) row) e))
+all-below : (m : ℕ) (row : List ℕ) → allOf (λ d. ltb d m) row ≡ true → All (λ d. d < m) row
+all-below m row e = All-map row (λ d. ltb→lt d m) (all-facts (λ d. ltb d m) row (T-of (allOf (λ d. ltb d m) row) e))
 
 -- a content that `mark` is asked with: its predicate and row, and its place in the marks
 module _ (m : ℕ) (preds segments content marks : List ℕ)
@@ -58,15 +58,15 @@ module _ (m : ℕ) (preds segments content marks : List ℕ)
       let narrow = All-getD (λ n. n ≤ 3) preds 0 (segs .narrow) (getD content 0 0) (declared-here .0) in
       omega (arith, narrow, declared-here .1, ap length (part-rest 1 content))
 
-  pub states-below : {b : Bool} → b ≡ all (λ d. ltb d m) (rowIn content) → b ≡ true → All (λ d. d < m) (rowIn content)
+  pub states-below : {b : Bool} → b ≡ allOf (λ d. ltb d m) (rowIn content) → b ≡ true → All (λ d. d < m) (rowIn content)
   states-below e t = all-below m (rowIn content) (sym e ∙ t)
 
   -- a state that is not below m
-  pub state-past : {b : Bool} → b ≡ all (λ d. ltb d m) (rowIn content) → b ≡ false → false ≡ isFree m preds marks content
+  pub state-past : {b : Bool} → b ≡ allOf (λ d. ltb d m) (rowIn content) → b ≡ false → false ≡ isFree m preds marks content
   state-past e f =
       ap
       (λ (b : Bool). b && eqb (getD marks (place m preds (getD content 0 0) (drop 1 content)) 0) 0)
-      (sym f ∙ (e ∙ ap (all (λ d. ltb d m)) (part-rest 1 content)))
+      (sym f ∙ (e ∙ ap (allOf (λ d. ltb d m)) (part-rest 1 content)))
 
   -- its place, from where the segment starts and the cell of the row
   module _ {p first c : ℕ} (is : p ≡ getD content 0 0) (starts : first ≡ getD segments p 0) (cell-is : c ≡ cell m (rowIn content)) where
@@ -77,9 +77,9 @@ module _ (m : ℕ) (preds segments content marks : List ℕ)
         (starts ∙ (segs .each p (predicate-lt is) ∙ ap (start m preds) is))
         (cell-is ∙ ap (cell m) (part-rest 1 content))
 
-    module _ {b : Bool} (e : b ≡ all (λ d. ltb d m) (rowIn content)) (t : b ≡ true) where
-      below : all (λ d. ltb d m) (drop 1 content) ≡ true
-      below = ap (all (λ d. ltb d m)) (sym (part-rest 1 content)) ∙ (sym e ∙ t)
+    module _ {b : Bool} (e : b ≡ allOf (λ d. ltb d m) (rowIn content)) (t : b ≡ true) where
+      below : allOf (λ d. ltb d m) (drop 1 content) ≡ true
+      below = ap (allOf (λ d. ltb d m)) (sym (part-rest 1 content)) ∙ (sym e ∙ t)
 
       pub place-inside : first + c < length marks
       place-inside =
@@ -124,8 +124,8 @@ module _ (m : ℕ) (preds : List ℕ) (atoms : List (List ℕ)) (marks : List �
   -- so a content is free exactly if its states are below m and it is not one of them
   free-new : (p : ℕ) (row : List ℕ)
       → T (isAtomContent preds (p ∷ row))
-      → (not (all (λ d. ltb d m) row) || among atoms p row) ≡ not (isFree m preds marks (p ∷ row))
-  free-new p row t = go (all (λ d. ltb d m) row) refl
+      → (not (allOf (λ d. ltb d m) row) || among atoms p row) ≡ not (isFree m preds marks (p ∷ row))
+  free-new p row t = go (allOf (λ d. ltb d m) row) refl
     where
       mark : ℕ
       mark = getD marks (place m preds p row) 0
@@ -134,7 +134,7 @@ module _ (m : ℕ) (preds : List ℕ) (atoms : List (List ℕ)) (marks : List �
       held true e = ap (λ (n : ℕ). not (eqb n 0)) (sym e)
       held false e = ap (λ (n : ℕ). not (eqb n 0)) (sym e)
 
-      go : (b : Bool) → all (λ d. ltb d m) row ≡ b → (not b || among atoms p row) ≡ not (b && eqb mark 0)
+      go : (b : Bool) → allOf (λ d. ltb d m) row ≡ b → (not b || among atoms p row) ≡ not (b && eqb mark 0)
       go true e = held (among atoms p row) (h .each p row (declared-exact preds p (length row) .0 t, all-below m row e))
       go false e = refl
 
@@ -196,7 +196,7 @@ module _ (m : ℕ) (preds : List ℕ) (done : List Field) (marks : List ℕ) (h 
       → Holding m preds (contentsOf atomTag (done ++ (whole atomTag content ∷ []))) (set marks (place m preds (getD content 0 0) (drop 1 content)) 2)
   hold-free [] t free = absurd t
   hold-free (p ∷ row) t free =
-      let below : all (λ d. ltb d m) row ≡ true = T-true (all (λ d. ltb d m) row) (both (all (λ d. ltb d m) row) (eqb (getD marks (place m preds p row) 0) 0) (T-of (isFree m preds marks (p ∷ row)) free) .0) in
+      let below : allOf (λ d. ltb d m) row ≡ true = T-true (allOf (λ d. ltb d m) row) (both (allOf (λ d. ltb d m) row) (eqb (getD marks (place m preds p row) 0) 0) (T-of (isFree m preds marks (p ∷ row)) free) .0) in
       subst
       (λ (atoms : List (List ℕ)). Holding m preds atoms (set marks (place m preds p row) 2))
       (sym (contentsOf-append atomTag done (whole atomTag (p ∷ row) ∷ [])))

@@ -10,7 +10,7 @@ use lib.Dec.{T, eqb, ltb}
 use lib.ListN.{length, getD, drop, set, replicate, length-append, length-replicate, length-drop, drop-of-length-le}
 use lib.Seq.{append-snoc}
 use borrow.Author.Tests.{ne-eqb}
-use Rattle.meaning.specs.Lists.{all, any, same}
+use Rattle.meaning.specs.Lists.{allOf, anyOf, same}
 use Rattle.meaning.specs.Limits.{atomTag}
 use Rattle.meaning.specs.Fields.{Field, whole, Front, empty, short, front, frontOf, onFront, fields, contentsOf, firstField}
 use Rattle.meaning.specs.Cells.{cells}
@@ -31,8 +31,8 @@ other-fine : (m : ℕ) (done : List Field) (tag : ℕ) (content : List ℕ) → 
 other-fine m done tag [] ne = tt
 other-fine m done tag (p ∷ row) ne =
     T-not-of
-    (eqb tag atomTag && (not (all (λ d. ltb d m) row) || any (same (p ∷ row)) (contentsOf atomTag done)))
-    (ap (λ (b : Bool). b && (not (all (λ d. ltb d m) row) || any (same (p ∷ row)) (contentsOf atomTag done))) (ne-eqb tag atomTag ne))
+    (eqb tag atomTag && (not (allOf (λ d. ltb d m) row) || anyOf (same (p ∷ row)) (contentsOf atomTag done)))
+    (ap (λ (b : Bool). b && (not (allOf (λ d. ltb d m) row) || anyOf (same (p ∷ row)) (contentsOf atomTag done))) (ne-eqb tag atomTag ne))
 
 other-atoms : (done : List Field) (tag : ℕ) (content : List ℕ) → tag ≢ atomTag → contentsOf atomTag (done ++ (whole tag content ∷ [])) ≡ contentsOf atomTag done
 other-atoms done tag content ne =

@@ -6,7 +6,7 @@ use mathlib.Core.Bool.{Bool, cond, _&&_}
 use mathlib.Core.List.{List}
 use lib.Dec.{eqb, ltb}
 use lib.ListN.{length, getD, drop}
-use Rattle.meaning.specs.Lists.{All, all}
+use Rattle.meaning.specs.Lists.{All, allOf}
 use Rattle.meaning.specs.Cells.{start, cells}
 use Rattle.meaning.specs.Clauses.{IsAtom, place}
 use Rattle.meaning.specs.Certificates.{among}
@@ -22,7 +22,7 @@ pub record Segmented (m : ℕ) (preds segments : List ℕ) : Type 0 where
 -- an atom's content with states below m and no mark
 abbrev pub isFree : ℕ → List ℕ → List ℕ → List ℕ → Bool
 isFree m preds marks content =
-    all (λ d. ltb d m) (drop 1 content) && eqb (getD marks (place m preds (getD content 0 0) (drop 1 content)) 0) 0
+    allOf (λ d. ltb d m) (drop 1 content) && eqb (getD marks (place m preds (getD content 0 0) (drop 1 content)) 0) 0
 
 -- marks that hold some atoms and no other, each as new
 pub record Holding (m : ℕ) (preds : List ℕ) (atoms : List (List ℕ)) (marks : List ℕ) : Type 0 where

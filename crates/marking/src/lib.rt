@@ -5,7 +5,7 @@ ghost use mathlib.Core.Bool.{cond};
 ghost use mathlib.Core.Option.{none};
 ghost use lib.Dec.{T, ltb};
 ghost use lib.ListN.{length, getD, set, drop, replicate};
-ghost use Rattle.meaning.specs.Lists.{all};
+ghost use Rattle.meaning.specs.Lists.{allOf};
 ghost use Rattle.meaning.specs.Limits.{atomTag};
 ghost use Rattle.meaning.specs.Fields.{fields, contentsOf, firstField};
 ghost use Rattle.meaning.specs.Cells.{cells};
@@ -28,7 +28,7 @@ fn index(n: u32) -> usize
 
 // Whether each state of a row is below m.
 fn all_below(row: &[u8], m: usize) -> bool
-    ensures { λ r. ⌜ r ≡ all (λ d. ltb d m) (now (row .entry)) ⌝ }
+    ensures { λ r. ⌜ r ≡ allOf (λ d. ltb d m) (now (row .entry)) ⌝ }
 {
     let mut i = 0;
     while i < row.len() {

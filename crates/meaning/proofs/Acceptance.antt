@@ -21,7 +21,7 @@ use Rattle.meaning.specs.Files.{readAll, named, productionOf, rulesIn, r
 use Rattle.meaning.proofs.Lists.{joined-append, All-map}
 use Rattle.meaning.proofs.Contents.{isSome-give, cons-same, conditionTypes, isNamed-exact, isProduction-exact, readClause-back, readClause-exact, readQuery-back, readQuery-exact}
 use Rattle.meaning.proofs.Fields.{NoField, firstField-none, fields-nil, fields-joined, fields-whole, encodeWhole, contentsOf-append}
-use Rattle.meaning.proofs.ByKind.{tag-range, Rising, rising-weaken, rising-map, rising-byTag, none-twice-one, WellFields, well-fine, fine-well}
+use Rattle.meaning.proofs.ByKind.{tag-range, TagsRise, rising-weaken, rising-map, rising-byTag, none-twice-one, WellFields, well-fine, fine-well}
 use Rattle.meaning.proofs.Answers.{Fine, none-refused, accepted-exact}
 
 -- The fields of rules
@@ -89,17 +89,17 @@ abbrev Climbing : ℕ → List Kind → Type 0
 Climbing t [] = Unit
 Climbing t (k ∷ ks) = (t ≤ tagOf k) × Climbing (tagOf k) ks
 
-rising-kinds : (r : Rules) (t : ℕ) (ks : List Kind) → Climbing t ks → Rising t 7 (joined (map (kindFields r) ks))
+rising-kinds : (r : Rules) (t : ℕ) (ks : List Kind) → Climbing t ks → TagsRise t 7 (joined (map (kindFields r) ks))
 rising-kinds r t [] h = tt
 rising-kinds r t (k ∷ ks) h =
     rising-weaken t (tagOf k) 7 (joined (map (kindFields r) (k ∷ ks))) (h .0)
     (rising-map (tagOf k) 7 (contentsFor k r) (joined (map (kindFields r) ks)) (tag-range k .1) (rising-kinds r (tagOf k) ks (h .1)))
 
-pub rising-for : (r : Rules) → Rising 1 7 (fieldsFor r)
+pub rising-for : (r : Rules) → TagsRise 1 7 (fieldsFor r)
 rising-for r = rising-kinds r 1 kinds (omega arith)
 
 -- fields with the contents of rules, kind after kind, are the fields of the rules
-pub rising-fields : (r : Rules) (fs : List Field) → Rising 1 7 fs → ((k : Kind) → contents k fs ≡ contentsFor k r) → fs ≡ fieldsFor r
+pub rising-fields : (r : Rules) (fs : List Field) → TagsRise 1 7 fs → ((k : Kind) → contents k fs ≡ contentsFor k r) → fs ≡ fieldsFor r
 rising-fields r fs h e = rising-byTag 6 1 7 fs (lit≤ tt) h ∙ ap (λ (f : Kind → List (List ℕ)). joined (map (λ (k : Kind). map (whole (tagOf k)) (f k)) kinds)) (fun-ext e)
 
 -- What is read of contents that are as laid out
@@ -305,7 +305,7 @@ none-refused-fields fs = (
 )
 
 -- no field is cut
-pub rising-whole : (t top : ℕ) (fs : List Field) → Rising t top fs → All (λ (f : Field). T (not (isCut f))) fs
+pub rising-whole : (t top : ℕ) (fs : List Field) → TagsRise t top fs → All (λ (f : Field). T (not (isCut f))) fs
 rising-whole t top [] h = tt
 rising-whole t top (cut ∷ fs) h = absurd h
 rising-whole t top (whole g c ∷ fs) h = (tt, rising-whole g top fs (h .2))

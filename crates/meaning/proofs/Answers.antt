@@ -10,7 +10,7 @@ use native.Mathlib.Omega.{arith}
 use lib.Dec.{T, eqb, ltb, ltb→lt, lt→ltb, nltb→le, eqb→eq}
 use lib.Arith.{le→nltb}
 use lib.ListN.{length, getD, take}
-use Rattle.meaning.specs.Lists.{any}
+use Rattle.meaning.specs.Lists.{anyOf}
 use Rattle.meaning.specs.Limits.{mostFileBytes, mostStates}
 use Rattle.meaning.specs.Fields.{Field, cut, fields, firstField}
 use Rattle.meaning.specs.Refusals.{Answer, refused, accepted, ok, andThen, refuseIf, isRefused, isCut, wrongTag, tooMany, malformed, nameTaken, refusal, firstRefused, noConstant}
@@ -199,14 +199,14 @@ Accepted file = Read file × List·Memᴰ 0 (symbolsOf file) × (length (statesO
 -- 7: a symbol of arity 0
 constant : (ns : List ℕ) → T (not (noConstant ns)) ↔ List·Memᴰ 0 ns
 constant ns = (
-  λ t. let w = any-find (λ n. eqb n 0) ns (not-not (any (λ n. eqb n 0) ns) t) in Memᴰ·cast (sym (eqb→eq (w .0) 0 (w .2))) (w .1),
-  λ m. not-not-intro (any (λ n. eqb n 0) ns) (any-give (λ n. eqb n 0) ns 0 m tt),
+  λ t. let w = any-find (λ n. eqb n 0) ns (not-not (anyOf (λ n. eqb n 0) ns) t) in Memᴰ·cast (sym (eqb→eq (w .0) 0 (w .2))) (w .1),
+  λ m. not-not-intro (anyOf (λ n. eqb n 0) ns) (any-give (λ n. eqb n 0) ns 0 m tt),
 )
 
 no-constant : (ns : List ℕ) → T (noConstant ns) ↔ (¬ List·Memᴰ 0 ns)
 no-constant ns = (
-  λ t m. clash (any (λ n. eqb n 0) ns) (any-give (λ n. eqb n 0) ns 0 m tt) t,
-  λ h. not-intro (any (λ n. eqb n 0) ns) (λ t. h (constant ns .0 (not-not-intro (any (λ n. eqb n 0) ns) t))),
+  λ t m. clash (anyOf (λ n. eqb n 0) ns) (any-give (λ n. eqb n 0) ns 0 m tt) t,
+  λ h. not-intro (anyOf (λ n. eqb n 0) ns) (λ t. h (constant ns .0 (not-not-intro (anyOf (λ n. eqb n 0) ns) t))),
 )
 
 -- Reading: the file can be read and has a constant, or one of 1 to 7 is given.

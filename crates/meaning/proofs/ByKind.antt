@@ -13,7 +13,7 @@ use lib.Dec.{T, eqb, ltb, eqb→eq, eqb-refl, nleb→lt, nltb→le, lit≤, lit<
 use lib.Arith.{le→nltb, lt→nleb}
 use lib.ListN.{length, getD, drop, length-append, length-map, List·getD-append}
 use lib.Seq.{append-snoc, getD-append-add}
-use Rattle.meaning.specs.Lists.{any, All, same}
+use Rattle.meaning.specs.Lists.{anyOf, All, same}
 use Rattle.meaning.specs.Limits.{Kind, symbol, type, production, predicate, clause, query, tagOf, mostOf, mostContent}
 use Rattle.meaning.specs.Fields.{Field, whole, cut, contentsOf}
 use Rattle.meaning.specs.Contents.{isSome, isProduction, readClause, readQuery}
@@ -64,28 +64,28 @@ range-kind (suc (suc (suc (suc (suc (suc zero)))))) h l = (query, refl)
 range-kind (suc (suc (suc (suc (suc (suc (suc g))))))) h l = absurd (not-suc-le-zero {n = 0} (omega arith))
 
 -- Whole fields whose tags never fall, from t on and below `top`
-abbrev pub Rising : ℕ → ℕ → List Field → Type 0
-Rising t top [] = Unit
-Rising t top (cut ∷ fs) = ⊥
-Rising t top (whole g content ∷ fs) = (t ≤ g) × (g < top) × Rising g top fs
+abbrev pub TagsRise : ℕ → ℕ → List Field → Type 0
+TagsRise t top [] = Unit
+TagsRise t top (cut ∷ fs) = ⊥
+TagsRise t top (whole g content ∷ fs) = (t ≤ g) × (g < top) × TagsRise g top fs
 
-pub rising-weaken : (t u top : ℕ) (fs : List Field) → t ≤ u → Rising u top fs → Rising t top fs
+pub rising-weaken : (t u top : ℕ) (fs : List Field) → t ≤ u → TagsRise u top fs → TagsRise t top fs
 rising-weaken t u top [] le h = tt
 rising-weaken t u top (cut ∷ fs) le h = h
 rising-weaken t u top (whole g content ∷ fs) le h = (le-trans le (h .0), h .1, h .2)
 
-pub rising-map : (t top : ℕ) (cs : List (List ℕ)) (fs : List Field) → t < top → Rising t top fs → Rising t top (map (whole t) cs ++ fs)
+pub rising-map : (t top : ℕ) (cs : List (List ℕ)) (fs : List Field) → t < top → TagsRise t top fs → TagsRise t top (map (whole t) cs ++ fs)
 rising-map t top [] fs lt h = h
 rising-map t top (c ∷ cs) fs lt h = (le-refl t, lt, rising-map t top cs fs lt h)
 
-pub rising-drop : (t top : ℕ) (before fs : List Field) → Rising t top (before ++ fs) → (u : ℕ) × (t ≤ u) × (lastTag before ≤ u) × Rising u top fs
+pub rising-drop : (t top : ℕ) (before fs : List Field) → TagsRise t top (before ++ fs) → (u : ℕ) × (t ≤ u) × (lastTag before ≤ u) × TagsRise u top fs
 rising-drop t top [] fs h = (t, le-refl t, zero-le, h)
 rising-drop t top (cut ∷ before) fs h = absurd h
 rising-drop t top (whole g c ∷ []) fs h = (g, h .0, le-refl g, h .2)
 rising-drop t top (whole g c ∷ x ∷ before) fs h =
     let w = rising-drop g top (x ∷ before) fs (h .2) in (w .0, le-trans (h .0) (w .1), w .2, w .3)
 
-pub contents-below : (u t top : ℕ) (fs : List Field) → u < t → Rising t top fs → contentsOf u fs ≡ []
+pub contents-below : (u t top : ℕ) (fs : List Field) → u < t → TagsRise t top fs → contentsOf u fs ≡ []
 contents-below u t top [] lt h = refl
 contents-below u t top (cut ∷ fs) lt h = absurd h
 contents-below u t top (whole g c ∷ fs) lt h =
@@ -109,13 +109,13 @@ byTag-skip (suc n) t g c fs lt =
     (cond-no (eqb g t) (c ∷ []) [] (not-intro (eqb g t) (λ e. lt-irrefl g (subst (λ (x : ℕ). g < x) (sym (eqb→eq g t e)) lt))))
     (byTag-skip n (suc t) g c fs (omega arith))
 
-pub rising-byTag : (n t top : ℕ) (fs : List Field) → top ≤ t + n → Rising t top fs → fs ≡ byTag n t fs
+pub rising-byTag : (n t top : ℕ) (fs : List Field) → top ≤ t + n → TagsRise t top fs → fs ≡ byTag n t fs
 rising-byTag zero t top [] le h = refl
 rising-byTag zero t top (cut ∷ fs) le h = absurd h
 rising-byTag zero t top (whole g c ∷ fs) le h = absurd (not-suc-le-zero {n = 0} (omega arith))
 rising-byTag (suc n) t top fs le h = go (λ gs r. rising-byTag n (suc t) top gs (omega arith) r) fs h
   where
-    go : ((gs : List Field) → Rising (suc t) top gs → gs ≡ byTag n (suc t) gs) → (gs : List Field) → Rising t top gs → gs ≡ byTag (suc n) t gs
+    go : ((gs : List Field) → TagsRise (suc t) top gs → gs ≡ byTag n (suc t) gs) → (gs : List Field) → TagsRise t top gs → gs ≡ byTag (suc n) t gs
     go later [] h = sym (byTag-nil n (suc t))
     go later (cut ∷ gs) h = absurd h
     go later (whole g c ∷ gs) h =
@@ -131,7 +131,7 @@ rising-byTag (suc n) t top fs le h = go (λ gs r. rising-byTag n (suc t) top gs 
 
 -- Lists with no member twice
 abbrev pub Fresh : List (List ℕ) → List (List ℕ) → Type 0
-Fresh xs ys = T (not (any (λ y. any (same y) xs) ys))
+Fresh xs ys = T (not (anyOf (λ y. anyOf (same y) xs) ys))
 
 getD-seam : (xs ys : List (List ℕ)) (j : ℕ) → length xs ≤ j → getD (xs ++ ys) j [] ≡ getD ys (j - length xs) []
 getD-seam xs ys j le =
@@ -140,8 +140,8 @@ getD-seam xs ys j le =
 
 not-both : (xs ys : List (List ℕ)) → Fresh xs ys → (i j : ℕ) → i < length xs → j < length ys → getD xs i [] ≢ getD ys j []
 not-both xs ys fresh i j li lj e =
-    clash (any (λ y. any (same y) xs) ys)
-    (any-give (λ y. any (same y) xs) ys (getD ys j []) (mem-getD ys [] j lj)
+    clash (anyOf (λ y. anyOf (same y) xs) ys)
+    (any-give (λ y. anyOf (same y) xs) ys (getD ys j []) (mem-getD ys [] j lj)
     (any-give (same (getD ys j [])) xs (getD xs i []) (mem-getD xs [] i li) (eq-same (getD ys j []) (getD xs i []) (sym e))))
     fresh
 
@@ -160,8 +160,8 @@ none-twice-append xs ys h k fresh i j lt lj e = go (decLt i (length xs)) (decLt 
         k (i - length xs) (j - length xs) (omega arith) (omega (arith, most)) (sym (getD-seam xs ys i (omega arith)) ∙ e ∙ getD-seam xs ys j (omega arith))
 
 pub none-twice-fresh : (xs ys : List (List ℕ)) → NoneTwice (xs ++ ys) → Fresh xs ys
-none-twice-fresh xs ys h = not-intro (any (λ y. any (same y) xs) ys) (λ t.
-    let b = any-find (λ y. any (same y) xs) ys t in
+none-twice-fresh xs ys h = not-intro (anyOf (λ y. anyOf (same y) xs) ys) (λ t.
+    let b = any-find (λ y. anyOf (same y) xs) ys t in
     let a = any-find (same (b .0)) xs (b .2) in
     go (b .0) (a .0) (same-eq (b .0) (a .0) (a .2)) (mem-place xs [] (a .0) (a .1)) (mem-place ys [] (b .0) (b .1)))
   where
@@ -172,7 +172,7 @@ none-twice-fresh xs ys h = not-intro (any (λ y. any (same y) xs) ys) (λ t.
 
 fresh-front : (xs ys zs : List (List ℕ)) → Fresh xs (ys ++ zs) → Fresh xs ys
 fresh-front xs ys zs t =
-    neither (any (λ y. any (same y) xs) ys) (any (λ y. any (same y) xs) zs) (subst (λ (b : Bool). T (not b)) (any-append (λ y. any (same y) xs) ys zs) t) .0
+    neither (anyOf (λ y. anyOf (same y) xs) ys) (anyOf (λ y. anyOf (same y) xs) zs) (subst (λ (b : Bool). T (not b)) (any-append (λ y. anyOf (same y) xs) ys zs) t) .0
 
 pub none-twice-one : (xs : List (List ℕ)) → length xs ≤ 1 → NoneTwice xs
 none-twice-one xs le i j lt lj e = not-suc-le-zero {n = 0} (omega arith)
@@ -259,7 +259,7 @@ fine-or-other before (whole g c) k h =
 
 -- The fields of a file as a whole: kind after kind, within the limits, laid out, no name twice
 pub record WellFields (fs : List Field) : Type 0 where
-  pub rising : Rising 1 7 fs
+  pub rising : TagsRise 1 7 fs
   pub counts : (k : Kind) → length (contents k fs) ≤ mostOf k
   pub sizes : (k : Kind) → All (λ (c : List ℕ). length c ≤ mostContent) (contents k fs)
   pub laid : (k : Kind) → All (λ (c : List ℕ). T (laidOutAfter fs k c)) (contents k fs)
@@ -280,7 +280,7 @@ contents-at before after k c =
     contentsOf-append (tagOf k) before (whole (tagOf k) c ∷ after)
     ∙ ap (λ (cs : List (List ℕ)). contents k before ++ (cs ++ contents k after)) (cond-yes (eqb (tagOf k) (tagOf k)) (c ∷ []) [] (eqb-refl (tagOf k)))
 
-contents-before : (before after : List Field) (k j : Kind) (c : List ℕ) → Rising 1 7 (before ++ whole (tagOf k) c ∷ after) → tagOf j < tagOf k
+contents-before : (before after : List Field) (k j : Kind) (c : List ℕ) → TagsRise 1 7 (before ++ whole (tagOf k) c ∷ after) → tagOf j < tagOf k
     → contents j (before ++ whole (tagOf k) c ∷ after) ≡ contents j before
 contents-before before after k j c h lt =
     let w = rising-drop 1 7 before (whole (tagOf k) c ∷ after) h in
@@ -328,7 +328,7 @@ lastTag-snoc [] g c = refl
 lastTag-snoc (f ∷ []) g c = refl
 lastTag-snoc (f ∷ x ∷ before) g c = lastTag-snoc (x ∷ before) g c
 
-fine-rising : (t : ℕ) (before fs : List Field) → ((g : ℕ) → 1 ≤ g → lastTag before ≤ g → t ≤ g) → NoField isRefused before fs → Rising t 7 fs
+fine-rising : (t : ℕ) (before fs : List Field) → ((g : ℕ) → 1 ≤ g → lastTag before ≤ g → t ≤ g) → NoField isRefused before fs → TagsRise t 7 fs
 fine-rising t before [] up h = tt
 fine-rising t before (cut ∷ fs) up h = absurd (not-refused before cut .0 (h .0) .0)
 fine-rising t before (whole g c ∷ fs) up h =
@@ -365,12 +365,12 @@ fine-well fs h =
       names = λ k. fine-collect fs k (λ cs. NoneTwice (namesIn k cs)) (λ before after c e w q. one-more k (contents k before) c q (w .fresh)) [] fs refl h (none-twice-one (namesIn k []) (le-trans (names-few k []) zero-le));
     }
   where
-    rising : Rising 1 7 fs
+    rising : TagsRise 1 7 fs
     rising = fine-rising 1 [] fs (λ g one _. one) h
 
     laid-after : (k : Kind) (before after : List Field) (c : List ℕ) → fs ≡ before ++ whole (tagOf k) c ∷ after → T (laidOutAfter before k c) → T (laidOutAfter fs k c)
     laid-after k before after c e t =
-        subst T (sym (laid-same fs before k c (λ j lt. ap (contents j) e ∙ contents-before before after k j c (subst (Rising 1 7) e rising) lt))) t
+        subst T (sym (laid-same fs before k c (λ j lt. ap (contents j) e ∙ contents-before before after k j c (subst (TagsRise 1 7) e rising) lt))) t
 
     one-more : (k : Kind) (cs : List (List ℕ)) (c : List ℕ) → NoneTwice (namesIn k cs) → Fresh (namesIn k cs) (namesIn k (c ∷ [])) → NoneTwice (namesIn k (cs ++ (c ∷ [])))
     one-more k cs c h fresh =

@@ -5,7 +5,7 @@ use mathlib.Core.Bool.{Bool}
 use mathlib.Core.List.{List, [], _∷_, _++_}
 use lib.Dec.{T}
 use lib.ListN.{length}
-use Rattle.meaning.specs.Lists.{any, all, same, joined}
+use Rattle.meaning.specs.Lists.{anyOf, allOf, same, joined}
 use Rattle.meaning.specs.Syntax.{Term, var, app, end, _▸_, Named, Production, Atom, Clause, Condition, isOf, notOf, Query}
 use Rattle.meaning.specs.Encoding.{encodeRules}
 use Rattle.meaning.specs.Fields.{fields, firstField}
@@ -34,7 +34,7 @@ ask states file = statesOf file
 ask cells file = tablesOf file
 ask models file = length (atomsOf file) ∷ roundsOf file ∷ joined (atomsOf file)
 ask verdicts file = verdictsOf file
-ask (inModel atom) file = bit (any (same atom) (atomsOf file)) ∷ []
+ask (inModel atom) file = bit (anyOf (same atom) (atomsOf file)) ∷ []
 ask (check sheet) file =
     pair (sheetAnswer (statesOf file) (interpretationOf file) (predicateArities file) (rulesOf file .clauses) sheet)
 
@@ -189,6 +189,6 @@ rows =
 holds : Row → Bool
 holds r = same (ask (r .asked) (r .file)) (r .says)
 
-cases : T (all holds rows)
+cases : T (allOf holds rows)
 unfolding rows holds ask E twoStates sheetE sheetG X Y z s p q p₂ clause query name to evenOdd wordsE I J constantOnly noType noSuchSet twoPlaces headOnly encodeRules fields firstField termWithin readTerms readAtom readAtoms readClause readConditions readQuery refusal firstRefused signature step determinise cellOf tables rulesIn rulesOf statesFor readAnswer fileAnswer brings next stage rounds model isOpen encodeSheet violated checkFields sheetAnswer markedAtoms symbolArities predicateArities statesOf stepOf interpretationOf tablesOf roundsOf modelOf atomsOf verdictOf verdictsOf
 cases = tt

@@ -12,14 +12,14 @@ use lib.Dec.{T, eqb, ltb, eqb→eq, eqb-refl, ltb→lt, lt→ltb}
 use lib.Arith.{digits-div, digits-mod}
 use lib.ListN.{length, getD, take, length-append, getElem?}
 use lib.Seq.{getD-take, length-take-le, ext-getD}
-use Rattle.meaning.specs.Lists.{any, all, All, same, lowest, joined}
+use Rattle.meaning.specs.Lists.{anyOf, allOf, All, same, lowest, joined}
 use Rattle.meaning.specs.Syntax.{Clause}
 use Rattle.meaning.specs.Limits.{stateTag, atomTag}
 use Rattle.meaning.specs.Fields.{Bytes, Field, whole, cut, word, fields, contentsOf, encodeField, firstField}
 use Rattle.meaning.specs.Refusals.{Answer, refused, accepted, isCut}
 use Rattle.meaning.specs.Legal.{NoneTwice}
 use Rattle.meaning.specs.Cells.{rowOf}
-use Rattle.meaning.specs.Clauses.{AtomSet, IsValuation, statesOf, InstanceIn, instanceIn, Closed}
+use Rattle.meaning.specs.Clauses.{AtomSet, IsValuation, termStates, InstanceIn, instanceIn, Closed}
 use Rattle.meaning.specs.Certificates.{stateBytes, encodeSheet, IsSheetAtom, LaidOut, Carries, InSheet, Valid, isAtomContent, misplaced, statesIn, differ, wrongAtom, among, violated, violatedAt, refusedAt, checkFields, sheetAnswer}
 use Rattle.meaning.proofs.Contents.{declared-exact}
 use Rattle.meaning.proofs.Lists.{decide, trichotomy, T-of, clash, not-not, not-not-intro, not-intro, both, both-of, neither, neither-of, any-find, any-give, all-facts, facts-all, All-map, mem-getD, mem-place, anyBelow-find, anyBelow-give, Lowest, lowest-law, lowest-is, lowest-none, eq-same, same-eq, same-refl}
@@ -258,13 +258,13 @@ differ-none xs ys = (alike, (λ e. subst (λ (l : List ℕ). lowest (max (length
         long (inr (inr h)) = absurd (omega (arith, at (length ys) (omega arith) .1))
 
 -- no list stands among those before it exactly if none is there twice
-pub none-twice : (ls : List (List ℕ)) → NoneBy (λ seen l. any (same l) seen) [] ls ↔ NoneTwice ls
-none-twice ls = Iff·trans (NoneBy-places (λ seen l. any (same l) seen) [] ls) (apart, fresh)
+pub none-twice : (ls : List (List ℕ)) → NoneBy (λ seen l. anyOf (same l) seen) [] ls ↔ NoneTwice ls
+none-twice ls = Iff·trans (NoneBy-places (λ seen l. anyOf (same l) seen) [] ls) (apart, fresh)
   where
-    apart : ((j : ℕ) → j < length ls → T (not (any (same (getD ls j [])) (take j ls)))) → NoneTwice ls
+    apart : ((j : ℕ) → j < length ls → T (not (anyOf (same (getD ls j [])) (take j ls)))) → NoneTwice ls
     apart h i j lt below e =
         clash
-        (any (same (getD ls j [])) (take j ls))
+        (anyOf (same (getD ls j [])) (take j ls))
         (any-give
         (same (getD ls j []))
         (take j ls)
@@ -273,9 +273,9 @@ none-twice ls = Iff·trans (NoneBy-places (λ seen l. any (same l) seen) [] ls) 
         (eq-same (getD ls j []) (getD (take j ls) i []) (sym e ∙ sym (getD-take j ls i [] lt))))
         (h j below)
 
-    fresh : NoneTwice ls → (j : ℕ) → j < length ls → T (not (any (same (getD ls j [])) (take j ls)))
+    fresh : NoneTwice ls → (j : ℕ) → j < length ls → T (not (anyOf (same (getD ls j [])) (take j ls)))
     fresh h j below =
-        not-intro (any (same (getD ls j [])) (take j ls)) (λ t.
+        not-intro (anyOf (same (getD ls j [])) (take j ls)) (λ t.
         let w = any-find (same (getD ls j [])) (take j ls) t in
         let v = mem-place (take j ls) [] (w .0) (w .1) in
         let lt : v .0 < j = omega (arith, v .1, length-take-le j ls (omega arith)) in
@@ -295,7 +295,7 @@ module _ (m : ℕ) (preds : List ℕ) where
       → contentsOf atomTag before ≡ seen
       → AtomContents preds atoms
       → NoField (wrongAtom m) before (map (whole atomTag) atoms)
-      ↔ (All (IsSheetAtom m preds) atoms × NoneBy (λ seen l. any (same l) seen) seen atoms)
+      ↔ (All (IsSheetAtom m preds) atoms × NoneBy (λ seen l. anyOf (same l) seen) seen atoms)
   atoms-right before seen [] e h = ((λ k. (tt, tt)), (λ k. tt))
   atoms-right before seen ([] ∷ atoms) e h = absurd (h .0)
   atoms-right before seen ((p ∷ row) ∷ atoms) e h =
@@ -306,23 +306,23 @@ module _ (m : ℕ) (preds : List ℕ) where
       (contentsOf-append atomTag before (whole atomTag (p ∷ row) ∷ []) ∙ ap (λ (l : List (List ℕ)). l ++ ((p ∷ row) ∷ [])) e)
       (h .1) in (
         (λ k.
-            let w = neither (not (all (λ d. ltb d m) row)) (any (same (p ∷ row)) (contentsOf atomTag before)) (k .0) in
+            let w = neither (not (allOf (λ d. ltb d m) row)) (anyOf (same (p ∷ row)) (contentsOf atomTag before)) (k .0) in
             let v = later .0 (k .1) in (
               (
                 (
                   declared-exact preds p (length row) .0 (h .0),
-                  All-map row (λ d. ltb→lt d m) (all-facts (λ d. ltb d m) row (not-not (all (λ d. ltb d m) row) (w .0))),
+                  All-map row (λ d. ltb→lt d m) (all-facts (λ d. ltb d m) row (not-not (allOf (λ d. ltb d m) row) (w .0))),
                 ),
                 v .0,
               ),
-              (subst (λ (l : List (List ℕ)). T (not (any (same (p ∷ row)) l))) e (w .1), v .1),
+              (subst (λ (l : List (List ℕ)). T (not (anyOf (same (p ∷ row)) l))) e (w .1), v .1),
             )),
         (λ k. (
           neither-of
-              (not (all (λ d. ltb d m) row))
-              (any (same (p ∷ row)) (contentsOf atomTag before))
-              (not-not-intro (all (λ d. ltb d m) row) (facts-all (λ d. ltb d m) row (All-map row (λ d. lt→ltb d m) (k .0 .0 .1))))
-              (subst (λ (l : List (List ℕ)). T (not (any (same (p ∷ row)) l))) (sym e) (k .1 .0)),
+              (not (allOf (λ d. ltb d m) row))
+              (anyOf (same (p ∷ row)) (contentsOf atomTag before))
+              (not-not-intro (allOf (λ d. ltb d m) row) (facts-all (λ d. ltb d m) row (All-map row (λ d. lt→ltb d m) (k .0 .0 .1))))
+              (subst (λ (l : List (List ℕ)). T (not (anyOf (same (p ∷ row)) l))) (sym e) (k .1 .0)),
           later .1 (k .0 .1, k .1 .1),
         )),
       )
@@ -350,7 +350,7 @@ module _ (m : ℕ) (preds : List ℕ) where
       no-atom [] = refl
       no-atom (x ∷ l) = no-atom l
 
-      of-atoms : NoField (wrongAtom m) states (map (whole atomTag) atoms) ↔ (All (IsSheetAtom m preds) atoms × NoneBy (λ seen l. any (same l) seen) [] atoms)
+      of-atoms : NoField (wrongAtom m) states (map (whole atomTag) atoms) ↔ (All (IsSheetAtom m preds) atoms × NoneBy (λ seen l. anyOf (same l) seen) [] atoms)
       of-atoms = atoms-right states [] atoms (no-atom xs) h
 
 -- members by place
@@ -386,24 +386,24 @@ pub record LowestViolation (m : ℕ) (interpret : ℕ → List ℕ → ℕ) (cla
 -- 13: the test finds the violations in the set of the atoms
 module _ (m : ℕ) (interpret : ℕ → List ℕ → ℕ) (atoms : List (List ℕ)) (S : AtomSet) (is : (p : ℕ) (row : List ℕ) → T (among atoms p row) ↔ S p row) where
   passes-is : (c : Clause) (ν : List ℕ)
-      → T (all (instanceIn interpret ν (among atoms)) (c .body) && not (instanceIn interpret ν (among atoms) (c .head)))
+      → T (allOf (instanceIn interpret ν (among atoms)) (c .body) && not (instanceIn interpret ν (among atoms) (c .head)))
       ↔ (All (InstanceIn interpret ν S) (c .body) × (¬ InstanceIn interpret ν S (c .head)))
   passes-is c ν = (
     (λ t.
         let w = both bodies (not heads) t in (
-          All-map (c .body) (λ a. is (a .predicate) (statesOf interpret ν (a .arguments)) .0) (all-facts (instanceIn interpret ν (among atoms)) (c .body) (w .0)),
-          (λ h. clash heads (is (c .head .predicate) (statesOf interpret ν (c .head .arguments)) .1 h) (w .1)),
+          All-map (c .body) (λ a. is (a .predicate) (termStates interpret ν (a .arguments)) .0) (all-facts (instanceIn interpret ν (among atoms)) (c .body) (w .0)),
+          (λ h. clash heads (is (c .head .predicate) (termStates interpret ν (c .head .arguments)) .1 h) (w .1)),
         )),
     (λ h.
         both-of
         bodies
         (not heads)
-        (facts-all (instanceIn interpret ν (among atoms)) (c .body) (All-map (c .body) (λ a. is (a .predicate) (statesOf interpret ν (a .arguments)) .1) (h .0)))
-        (not-intro heads (λ t. h .1 (is (c .head .predicate) (statesOf interpret ν (c .head .arguments)) .0 t)))),
+        (facts-all (instanceIn interpret ν (among atoms)) (c .body) (All-map (c .body) (λ a. is (a .predicate) (termStates interpret ν (a .arguments)) .1) (h .0)))
+        (not-intro heads (λ t. h .1 (is (c .head .predicate) (termStates interpret ν (c .head .arguments)) .0 t)))),
   )
     where
       bodies : Bool
-      bodies = all (instanceIn interpret ν (among atoms)) (c .body)
+      bodies = allOf (instanceIn interpret ν (among atoms)) (c .body)
 
       heads : Bool
       heads = instanceIn interpret ν (among atoms) (c .head)
@@ -427,12 +427,12 @@ module _ (m : ℕ) (interpret : ℕ → List ℕ → ℕ) (atoms : List (List �
   )
     where
       passes : List ℕ → Type 0
-      passes ν = T (all (instanceIn interpret ν (among atoms)) (c .body) && not (instanceIn interpret ν (among atoms) (c .head)))
+      passes ν = T (allOf (instanceIn interpret ν (among atoms)) (c .body) && not (instanceIn interpret ν (among atoms) (c .head)))
 
       test : ℕ → Bool
       test n =
           let ν = rowOf m (c .variables) n in
-          all (instanceIn interpret ν (among atoms)) (c .body) && not (instanceIn interpret ν (among atoms) (c .head))
+          allOf (instanceIn interpret ν (among atoms)) (c .body) && not (instanceIn interpret ν (among atoms) (c .head))
 
   violatedAt-is : (clauses : List Clause) (i : ℕ)
       → T (violatedAt m interpret atoms clauses i) ↔ ((c : Clause) × (getElem? clauses i ≡ some c) × Violation m interpret S c)
@@ -448,7 +448,7 @@ module _ (m : ℕ) (interpret : ℕ → List ℕ → ℕ) (atoms : List (List �
   none-violated clauses = (
     (λ e c mem ν valued body.
         ⊎-elim
-        (λ t. is (c .head .predicate) (statesOf interpret ν (c .head .arguments)) .0 t)
+        (λ t. is (c .head .predicate) (termStates interpret ν (c .head .arguments)) .0 t)
         (λ t.
         let w = mem-at clauses c mem in
         absurd
@@ -461,7 +461,7 @@ module _ (m : ℕ) (interpret : ℕ → List ℕ → ℕ) (atoms : List (List �
             valuation = ν;
             valued = valued;
             bodyIn = body;
-            headOut = λ h. clash (instanceIn interpret ν (among atoms) (c .head)) (is (c .head .predicate) (statesOf interpret ν (c .head .arguments)) .1 h) t;
+            headOut = λ h. clash (instanceIn interpret ν (among atoms) (c .head)) (is (c .head .predicate) (termStates interpret ν (c .head .arguments)) .1 h) t;
           },
         ))
         (subst (Lowest (length clauses) test) e (lowest-law (length clauses) test) (w .0) (at-lt clauses (w .0) c (w .1)))))

@@ -10,7 +10,7 @@ use native.Mathlib.Nat.{le-trans, not-suc-le-zero, le-refl, lt-irrefl}
 use native.Mathlib.Omega.{arith}
 use lib.Dec.{T, eqb, leb, ltb, ltb→lt, lt→ltb, leb→le, le→leb, eqb→eq, eqb-refl, not-T}
 use lib.ListN.{length, getD, length-append}
-use Rattle.meaning.specs.Lists.{all, All, joined}
+use Rattle.meaning.specs.Lists.{allOf, All, joined}
 use Rattle.meaning.specs.Syntax.{Term, Terms, var, app, end, _▸_, termCount, Atom, Clause, Condition, isOf, notOf, free, Query}
 use Rattle.meaning.specs.Limits.{mostVariables, mostBody, firstVariable, freeByte}
 use Rattle.meaning.specs.Contents.{readTerm, Read, _>>=_, provided, complete, isSome, isName, isNamed, declared, isProduction, termWithin, termsWithin, readTerms, readAtom, readAtoms, readClause, readCondition, readConditions, readQuery}
@@ -478,10 +478,10 @@ isProduction-exact types arities [] = (λ t. absurd t, λ h. nil≢cons (h .0))
 isProduction-exact types arities (target ∷ []) = (λ t. absurd t, λ h. nil≢cons (tail-eq-of-cons-eq (h .0)))
 isProduction-exact types arities (target ∷ symbol ∷ arguments) = (
   λ t.
-      let w = both (ltb target types && declared arities symbol (length arguments)) (all (λ u. ltb u types) arguments) t in
+      let w = both (ltb target types && declared arities symbol (length arguments)) (allOf (λ u. ltb u types) arguments) t in
       let u = both (ltb target types) (declared arities symbol (length arguments)) (w .0) in
       (refl, (ltb→lt target types (u .0), declared-exact arities symbol (length arguments) .0 (u .1), All-map arguments (λ x. ltb→lt x types) (all-facts (λ x. ltb x types) arguments (w .1)))),
-  λ h. both-of (ltb target types && declared arities symbol (length arguments)) (all (λ u. ltb u types) arguments)
+  λ h. both-of (ltb target types && declared arities symbol (length arguments)) (allOf (λ u. ltb u types) arguments)
       (both-of (ltb target types) (declared arities symbol (length arguments)) (lt→ltb target types (h .1 .0)) (declared-exact arities symbol (length arguments) .1 (h .1 .1)))
       (facts-all (λ x. ltb x types) arguments (All-map arguments (λ x. lt→ltb x types) (h .1 .2))),
 )

@@ -7,12 +7,12 @@ use mathlib.Core.Option.{Option·getD}
 use native.Mathlib.Omega.{arith}
 use lib.Dec.{eqb}
 use lib.ListN.{length}
-use Rattle.meaning.specs.Lists.{all, anyBelow, All, same, lowest, table}
+use Rattle.meaning.specs.Lists.{allOf, anyBelow, All, same, lowest, table}
 use Rattle.meaning.specs.Syntax.{Term, Terms, var, app, end, _▸_, Atom, Clause, Query}
 use Rattle.meaning.specs.Legal.{Declared, WellTerm, WellTerms, WellAtom, WellClause, WellQuery}
 use Rattle.meaning.specs.Types.{bit}
 use Rattle.meaning.specs.Cells.{rowOf, cells}
-use Rattle.meaning.specs.Clauses.{IsValuation, stateOf, statesOf, instanceIn, place, bringsUnder, marked, brings, next, stage, rounds, model, meetsAll, isOpen}
+use Rattle.meaning.specs.Clauses.{IsValuation, termState, termStates, instanceIn, place, bringsUnder, marked, brings, next, stage, rounds, model, meetsAll, isOpen}
 use Rattle.meaning.specs.Certificates.{among, violated, violatedAt}
 use Rattle.meaning.proofs.Setting.{InRange}
 use Rattle.meaning.proofs.Stages.{states-lt, length-statesOf}
@@ -27,13 +27,13 @@ module _ (arities : List ℕ) (m : ℕ) (I J : ℕ → List ℕ → ℕ) (range 
     (agree : (f : ℕ) (row : List ℕ) → Declared arities f (length row) → All (λ d. d < m) row → I f row ≡ J f row) where
   module _ (variables : ℕ) (ν : List ℕ) (val : IsValuation m variables ν) where
     mutual
-      pub state-same : (t : Term) → WellTerm arities variables t → stateOf I ν t ≡ stateOf J ν t
+      pub state-same : (t : Term) → WellTerm arities variables t → termState I ν t ≡ termState J ν t
       state-same (var i) h = refl
       state-same (app f ts) h =
-          agree f (statesOf I ν ts) (subst (λ (n : ℕ). Declared arities f n) (sym (length-statesOf I ν ts)) (h .0)) (states-lt arities m I range variables ν val ts (h .1))
+          agree f (termStates I ν ts) (subst (λ (n : ℕ). Declared arities f n) (sym (length-statesOf I ν ts)) (h .0)) (states-lt arities m I range variables ν val ts (h .1))
           ∙ ap (J f) (states-same ts (h .1))
 
-      pub states-same : (ts : Terms) → WellTerms arities variables ts → statesOf I ν ts ≡ statesOf J ν ts
+      pub states-same : (ts : Terms) → WellTerms arities variables ts → termStates I ν ts ≡ termStates J ν ts
       states-same end h = refl
       states-same (t ▸ ts) h = ap₂ (λ (d : ℕ) (row : List ℕ). d ∷ row) (state-same t (h .0)) (states-same ts (h .1))
 
@@ -41,7 +41,7 @@ module _ (arities : List ℕ) (m : ℕ) (I J : ℕ → List ℕ → ℕ) (range 
       pub instance-same : (a : Atom) → WellAtom arities variables preds a → instanceIn I ν S a ≡ instanceIn J ν S a
       instance-same a h = ap (S (a .predicate)) (states-same (a .arguments) (h .1))
 
-      pub body-same : (body : List Atom) → All (WellAtom arities variables preds) body → all (instanceIn I ν S) body ≡ all (instanceIn J ν S) body
+      pub body-same : (body : List Atom) → All (WellAtom arities variables preds) body → allOf (instanceIn I ν S) body ≡ allOf (instanceIn J ν S) body
       body-same [] h = refl
       body-same (a ∷ body) h = ap₂ (λ (x y : Bool). x && y) (instance-same a (h .0)) (body-same body (h .1))
 

@@ -11,7 +11,7 @@ use native.Mathlib.Decide.{decLt}
 use native.Mathlib.Omega.{arith}
 use lib.Dec.{T, eqb, eqb→eq, eqb-refl}
 use lib.ListN.{length, getD}
-use Rattle.meaning.specs.Lists.{any, all, All, anyBelow, lowest, same, joined, table}
+use Rattle.meaning.specs.Lists.{anyOf, allOf, All, anyBelow, lowest, same, joined, table}
 
 -- a test and its negation
 pub decide : (b : Bool) → T b ⊎ T (not b)
@@ -105,43 +105,43 @@ cond-no false x y t = refl
 
 module _ {A : Type 0} where
   -- some member
-  pub any-find : (f : A → Bool) (l : List A) → T (any f l) → (x : A) × List·Memᴰ x l × T (f x)
+  pub any-find : (f : A → Bool) (l : List A) → T (anyOf f l) → (x : A) × List·Memᴰ x l × T (f x)
   any-find f [] t = absurd t
   any-find f (x ∷ xs) t =
       ⊎-elim
       (λ h. (x, List·Memᴰ·head refl, h))
       (λ h. let w = any-find f xs h in (w .0, List·Memᴰ·tail (w .1), w .2))
-      (either (f x) (any f xs) t)
+      (either (f x) (anyOf f xs) t)
 
-  pub any-give : (f : A → Bool) (l : List A) (x : A) → List·Memᴰ x l → T (f x) → T (any f l)
-  any-give f l x (List·Memᴰ·head {x = y} {xs = ys} e) h = left-of (f y) (any f ys) (subst (λ (z : A). T (f z)) e h)
-  any-give f l x (List·Memᴰ·tail {x = y} {xs = ys} m) h = right-of (f y) (any f ys) (any-give f ys x m h)
+  pub any-give : (f : A → Bool) (l : List A) (x : A) → List·Memᴰ x l → T (f x) → T (anyOf f l)
+  any-give f l x (List·Memᴰ·head {x = y} {xs = ys} e) h = left-of (f y) (anyOf f ys) (subst (λ (z : A). T (f z)) e h)
+  any-give f l x (List·Memᴰ·tail {x = y} {xs = ys} m) h = right-of (f y) (anyOf f ys) (any-give f ys x m h)
 
-  pub any-append : (f : A → Bool) (xs ys : List A) → any f (xs ++ ys) ≡ (any f xs || any f ys)
+  pub any-append : (f : A → Bool) (xs ys : List A) → anyOf f (xs ++ ys) ≡ (anyOf f xs || anyOf f ys)
   any-append f [] ys = refl
   any-append f (x ∷ xs) ys = go (f x) (any-append f xs ys)
     where
-      go : (b : Bool) → any f (xs ++ ys) ≡ (any f xs || any f ys) → (b || any f (xs ++ ys)) ≡ (b || any f xs || any f ys)
+      go : (b : Bool) → anyOf f (xs ++ ys) ≡ (anyOf f xs || anyOf f ys) → (b || anyOf f (xs ++ ys)) ≡ (b || anyOf f xs || anyOf f ys)
       go true e = refl
       go false e = e
 
   -- every member
-  pub all-find : (f : A → Bool) (l : List A) → T (all f l) → (x : A) → List·Memᴰ x l → T (f x)
-  all-find f l t x (List·Memᴰ·head {x = y} {xs = ys} e) = subst (λ (z : A). T (f z)) (sym e) (both (f y) (all f ys) t .0)
-  all-find f l t x (List·Memᴰ·tail {x = y} {xs = ys} m) = all-find f ys (both (f y) (all f ys) t .1) x m
+  pub all-find : (f : A → Bool) (l : List A) → T (allOf f l) → (x : A) → List·Memᴰ x l → T (f x)
+  all-find f l t x (List·Memᴰ·head {x = y} {xs = ys} e) = subst (λ (z : A). T (f z)) (sym e) (both (f y) (allOf f ys) t .0)
+  all-find f l t x (List·Memᴰ·tail {x = y} {xs = ys} m) = all-find f ys (both (f y) (allOf f ys) t .1) x m
 
-  pub all-give : (f : A → Bool) (l : List A) → ((x : A) → List·Memᴰ x l → T (f x)) → T (all f l)
+  pub all-give : (f : A → Bool) (l : List A) → ((x : A) → List·Memᴰ x l → T (f x)) → T (allOf f l)
   all-give f [] h = tt
-  all-give f (x ∷ xs) h = both-of (f x) (all f xs) (h x (List·Memᴰ·head refl)) (all-give f xs (λ y m. h y (List·Memᴰ·tail m)))
+  all-give f (x ∷ xs) h = both-of (f x) (allOf f xs) (h x (List·Memᴰ·head refl)) (all-give f xs (λ y m. h y (List·Memᴰ·tail m)))
 
   -- a test of every member and the same fact of every member
-  pub all-facts : (f : A → Bool) (l : List A) → T (all f l) → All (λ (x : A). T (f x)) l
+  pub all-facts : (f : A → Bool) (l : List A) → T (allOf f l) → All (λ (x : A). T (f x)) l
   all-facts f [] t = tt
-  all-facts f (x ∷ xs) t = (both (f x) (all f xs) t .0, all-facts f xs (both (f x) (all f xs) t .1))
+  all-facts f (x ∷ xs) t = (both (f x) (allOf f xs) t .0, all-facts f xs (both (f x) (allOf f xs) t .1))
 
-  pub facts-all : (f : A → Bool) (l : List A) → All (λ (x : A). T (f x)) l → T (all f l)
+  pub facts-all : (f : A → Bool) (l : List A) → All (λ (x : A). T (f x)) l → T (allOf f l)
   facts-all f [] h = tt
-  facts-all f (x ∷ xs) h = both-of (f x) (all f xs) (h .0) (facts-all f xs (h .1))
+  facts-all f (x ∷ xs) h = both-of (f x) (allOf f xs) (h .0) (facts-all f xs (h .1))
 
   pub All-map : {P Q : A → Type 0} (l : List A) → ((x : A) → P x → Q x) → All P l → All Q l
   All-map [] f h = tt

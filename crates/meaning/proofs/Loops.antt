@@ -10,7 +10,7 @@ use lib.Dec.{eqb}
 use lib.ListN.{length, getD, take, drop, length-drop, drop-of-length-le}
 use lib.Seq.{drop-cons, take-all}
 use borrow.Author.Tests.{eq-eqb, ne-eqb}
-use Rattle.meaning.specs.Lists.{all, same}
+use Rattle.meaning.specs.Lists.{allOf, same}
 use Rattle.meaning.proofs.Lists.{T-false, not-intro, same-eq}
 
 -- the part from a place to the end
@@ -19,18 +19,18 @@ part-rest n s = take-all (length s - n) (drop n s) (simp length-drop (omega arit
 
 -- all bytes from a place on
 module _ (f : ℕ → Bool) (l : List ℕ) (i : ℕ) where
-  pub all-end : length l ≤ i → all f (drop i l) ≡ true
-  all-end h = ap (all f) (drop-of-length-le l h)
+  pub all-end : length l ≤ i → allOf f (drop i l) ≡ true
+  all-end h = ap (allOf f) (drop-of-length-le l h)
 
   module _ (h : i < length l) where
-    all-step : all f (drop i l) ≡ (f (getD l i 0) && all f (drop (i + 1) l))
-    all-step = rw (add-one i) (ap (all f) (drop-cons l i 0 h))
+    all-step : allOf f (drop i l) ≡ (f (getD l i 0) && allOf f (drop (i + 1) l))
+    all-step = rw (add-one i) (ap (allOf f) (drop-cons l i 0 h))
 
-    pub all-fails : f (getD l i 0) ≡ false → all f (drop i l) ≡ false
-    all-fails e = all-step ∙ ap (λ (b : Bool). b && all f (drop (i + 1) l)) e
+    pub all-fails : f (getD l i 0) ≡ false → allOf f (drop i l) ≡ false
+    all-fails e = all-step ∙ ap (λ (b : Bool). b && allOf f (drop (i + 1) l)) e
 
-    pub all-next : f (getD l i 0) ≡ true → all f (drop i l) ≡ all f (drop (i + 1) l)
-    all-next e = all-step ∙ ap (λ (b : Bool). b && all f (drop (i + 1) l)) e
+    pub all-next : f (getD l i 0) ≡ true → allOf f (drop i l) ≡ allOf f (drop (i + 1) l)
+    all-next e = all-step ∙ ap (λ (b : Bool). b && allOf f (drop (i + 1) l)) e
 
 -- two lists from a place on
 pub same-lengths : (a b : List ℕ) → (length a ≡ length b → ⊥) → same a b ≡ false

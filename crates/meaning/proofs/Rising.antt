@@ -9,7 +9,7 @@ use native.Mathlib.Omega.{arith}
 use lib.Dec.{eqb, ltb}
 use borrow.Author.Tests.{ltb-true, ltb-false, eqb-true, eqb-false}
 use lib.ListN.{length, getD}
-use Rattle.meaning.specs.States.{insert, insertAll, indexOf}
+use Rattle.meaning.specs.States.{insertRising, insertAll, indexOf}
 use Rattle.meaning.proofs.Lists.{mem-getD, mem-place}
 
 -- a list without one of its members
@@ -111,17 +111,17 @@ insert-cases :
     (P : List ℕ → Type 0) (s x : ℕ) (xs : List ℕ)
     → (s < x → P (s ∷ x ∷ xs))
     → (s ≡ x → P (x ∷ xs))
-    → (x < s → P (x ∷ insert s xs))
-    → P (insert s (x ∷ xs))
+    → (x < s → P (x ∷ insertRising s xs))
+    → P (insertRising s (x ∷ xs))
 insert-cases P s x xs front here later = go (ltb s x) refl (eqb s x) refl
   where
-    go : (b : Bool) → ltb s x ≡ b → (c : Bool) → eqb s x ≡ c → P (cond b (s ∷ x ∷ xs) (cond c (x ∷ xs) (x ∷ insert s xs)))
+    go : (b : Bool) → ltb s x ≡ b → (c : Bool) → eqb s x ≡ c → P (cond b (s ∷ x ∷ xs) (cond c (x ∷ xs) (x ∷ insertRising s xs)))
     go true e c d = front (ltb-true s x e)
     go false e true d = here (eqb-true s x d)
     go false e false d = later (omega (arith, ltb-false s x e, eqb-false s x d))
 
 -- it is then a member, and so is what was one, and nothing else
-pub insert-new : (s : ℕ) (l : List ℕ) → List·Memᴰ s (insert s l)
+pub insert-new : (s : ℕ) (l : List ℕ) → List·Memᴰ s (insertRising s l)
 insert-new s [] = List·Memᴰ·head refl
 insert-new s (x ∷ xs) =
     insert-cases
@@ -133,7 +133,7 @@ insert-new s (x ∷ xs) =
     (λ e. List·Memᴰ·head e)
     (λ _. List·Memᴰ·tail (insert-new s xs))
 
-pub insert-old : (s : ℕ) (l : List ℕ) (y : ℕ) → List·Memᴰ y l → List·Memᴰ y (insert s l)
+pub insert-old : (s : ℕ) (l : List ℕ) (y : ℕ) → List·Memᴰ y l → List·Memᴰ y (insertRising s l)
 insert-old s [] y m = absurd (List·Memᴰ·not-nil m)
 insert-old s (x ∷ xs) y m =
     insert-cases
@@ -145,7 +145,7 @@ insert-old s (x ∷ xs) y m =
     (λ _. m)
     (λ _. ⊎-elim (λ e. List·Memᴰ·head e) (λ h. List·Memᴰ·tail (insert-old s xs y h)) (List·Memᴰ·cases-cons m))
 
-pub insert-find : (s : ℕ) (l : List ℕ) (y : ℕ) → List·Memᴰ y (insert s l) → (y ≡ s) ⊎ List·Memᴰ y l
+pub insert-find : (s : ℕ) (l : List ℕ) (y : ℕ) → List·Memᴰ y (insertRising s l) → (y ≡ s) ⊎ List·Memᴰ y l
 insert-find s [] y = λ m. List·Memᴰ·cases-cons m
 insert-find s (x ∷ xs) y =
     insert-cases
@@ -161,7 +161,7 @@ insert-find s (x ∷ xs) y =
     (λ h. ⊎-elim (λ e. inl e) (λ k. inr (List·Memᴰ·tail k)) (insert-find s xs y h))
     (List·Memᴰ·cases-cons m))
 
-pub insert-rising : (s : ℕ) (l : List ℕ) → Rising l → Rising (insert s l)
+pub insert-rising : (s : ℕ) (l : List ℕ) → Rising l → Rising (insertRising s l)
 insert-rising s [] r = rising-cons s [] (λ y m. absurd (List·Memᴰ·not-nil m)) rising-nil
 insert-rising s (x ∷ xs) r =
     insert-cases
@@ -174,12 +174,12 @@ insert-rising s (x ∷ xs) r =
     (λ lt.
     rising-cons
     x
-    (insert s xs)
+    (insertRising s xs)
     (λ y m. ⊎-elim (λ (e : y ≡ s). subst (λ (z : ℕ). x < z) (sym e) lt) (rising-head x xs r y) (insert-find s xs y m))
     (insert-rising s xs (rising-tail x xs r)))
 
 -- the list is left as it was, or is longer
-pub insert-longer : (s : ℕ) (l : List ℕ) → (insert s l ≡ l) ⊎ (length (insert s l) ≡ suc (length l))
+pub insert-longer : (s : ℕ) (l : List ℕ) → (insertRising s l ≡ l) ⊎ (length (insertRising s l) ≡ suc (length l))
 insert-longer s [] = inr refl
 insert-longer s (x ∷ xs) =
     insert-cases
@@ -217,9 +217,9 @@ insertAll-longer [] l = inl refl
 insertAll-longer (s ∷ ss) l = go (insert-longer s (insertAll ss l)) (insertAll-longer ss l)
   where
     go :
-        (insert s (insertAll ss l) ≡ insertAll ss l) ⊎ (length (insert s (insertAll ss l)) ≡ suc (length (insertAll ss l)))
+        (insertRising s (insertAll ss l) ≡ insertAll ss l) ⊎ (length (insertRising s (insertAll ss l)) ≡ suc (length (insertAll ss l)))
         → (insertAll ss l ≡ l) ⊎ (length l < length (insertAll ss l))
-        → (insert s (insertAll ss l) ≡ l) ⊎ (length l < length (insert s (insertAll ss l)))
+        → (insertRising s (insertAll ss l) ≡ l) ⊎ (length l < length (insertRising s (insertAll ss l)))
     go (inl e) (inl d) = inl (e ∙ d)
     go (inl e) (inr h) = inr (subst (λ (k : List ℕ). length l < length k) (sym e) h)
     go (inr e) (inl d) = inr (omega (arith, e, ap (λ (k : List ℕ). length k) d))

@@ -11,7 +11,7 @@ use Rattle.meaning.specs.Syntax.{Term, Terms, var, app, end, _▸_, term
 use Rattle.meaning.specs.Legal.{Declared, WellTerm, WellTerms, WellAtom, WellClause, WellQuery}
 use Rattle.meaning.specs.Types.{has, allowed, IsGround, AreGround}
 use Rattle.meaning.specs.Ground.{GroundSet, ground, grounds, GroundIn, IsSubstitution, GroundClosed, Derivable, GroundMeets, GroundMeetsAll, NoneDerivable}
-use Rattle.meaning.specs.Clauses.{AtomSet, IsValuation, stateOf, statesOf, InstanceIn, Closed, meets, meetsAll, Open}
+use Rattle.meaning.specs.Clauses.{AtomSet, IsValuation, termState, termStates, InstanceIn, Closed, meets, meetsAll, Open}
 use Rattle.meaning.proofs.Lists.{both-of, not-intro, All-find, All-give, length-table, getD-table, table-mem}
 use Rattle.meaning.proofs.Setting.{eachState, Homomorphism}
 
@@ -76,12 +76,12 @@ module _
     -- the state of a ground instance is the state of the term under the substitution's valuation
     module _ (v : ℕ) (σ : ℕ → Tree) (given : IsSubstitution arities v σ) where
       mutual
-        pub state-ground : (t : Term) → WellTerm arities v t → st (ground σ t) ≡ stateOf interpret (valuation st v σ) t
+        pub state-ground : (t : Term) → WellTerm arities v t → st (ground σ t) ≡ termState interpret (valuation st v σ) t
         state-ground (var i) w = sym (getD-table v (λ j. st (σ j)) 0 i w)
         state-ground (app f ts) w =
             hom .along f (grounds σ ts) (ground-is-ground arities allow v σ given (app f ts) w) ∙ ap (interpret f) (states-ground ts (w .1))
 
-        pub states-ground : (ts : Terms) → WellTerms arities v ts → eachState st (grounds σ ts) ≡ statesOf interpret (valuation st v σ) ts
+        pub states-ground : (ts : Terms) → WellTerms arities v ts → eachState st (grounds σ ts) ≡ termStates interpret (valuation st v σ) ts
         states-ground end w = refl
         states-ground (t ▸ ts) w = ap₂ (λ (d : ℕ) (row : List ℕ). d ∷ row) (state-ground t (w .0)) (states-ground ts (w .1))
 

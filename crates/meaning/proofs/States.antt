@@ -211,8 +211,8 @@ module _ (arities : List ℕ) (types : ℕ) (productions : List Production) wher
   states = statesFor arities types productions
 
   -- the state of a ground term
-  abbrev stateOf : Tree → ℕ
-  stateOf t = indexOf (typesOf productions types t) states
+  abbrev stateOfTree : Tree → ℕ
+  stateOfTree t = indexOf (typesOf productions types t) states
 
   -- a ground term with exactly these types
   abbrev pub TermOf : ℕ → Type 0
@@ -294,7 +294,7 @@ module _ (arities : List ℕ) (types : ℕ) (productions : List Production) wher
         (setsAt-among states row h))
 
     -- the states of ground terms go with the cells, and hold the terms' types
-    sets-of-states : (ts : Trees) → AreGround arities ts → setsAt states (eachState stateOf ts) ≡ typesOfs productions types ts
+    sets-of-states : (ts : Trees) → AreGround arities ts → setsAt states (eachState stateOfTree ts) ≡ typesOfs productions types ts
     sets-of-states leaf g = refl
     sets-of-states (t ▹ ts) g =
         ap₂
@@ -364,16 +364,16 @@ module _ (arities : List ℕ) (types : ℕ) (productions : List Production) wher
 
 -- the tables: a segment for each symbol, with a cell for each row, in which stands what the symbol gives over the row
 module _ (st : ℕ → List ℕ → ℕ) (states : List ℕ) where
-  abbrev segment : ℕ → ℕ → List ℕ
-  segment f n = table (length states ^ n) (λ c. cellOf st states f (rowOf (length states) n c))
+  abbrev tableSegment : ℕ → ℕ → List ℕ
+  tableSegment f n = table (length states ^ n) (λ c. cellOf st states f (rowOf (length states) n c))
 
-  length-segment : (f n : ℕ) → length (segment f n) ≡ length states ^ n
+  length-segment : (f n : ℕ) → length (tableSegment f n) ≡ length states ^ n
   length-segment f n = length-table (length states ^ n) (λ c. cellOf st states f (rowOf (length states) n c))
 
   length-tablesFrom : (f : ℕ) (arities : List ℕ) → length (tablesFrom st states f arities) ≡ cells (length states) arities
   length-tablesFrom f [] = refl
   length-tablesFrom f (n ∷ arities) =
-      length-append (segment f n) (tablesFrom st states (suc f) arities) ∙ ap₂ _+_ (length-segment f n) (length-tablesFrom (suc f) arities)
+      length-append (tableSegment f n) (tablesFrom st states (suc f) arities) ∙ ap₂ _+_ (length-segment f n) (length-tablesFrom (suc f) arities)
 
   pub length-tables : (arities : List ℕ) → length (tables st states arities) ≡ cells (length states) arities
   unfolding tables
@@ -387,7 +387,7 @@ module _ (st : ℕ → List ℕ → ℕ) (states : List ℕ) where
   tablesFrom-at [] f g row d h = absurd (not-suc-le-zero (d .0))
   tablesFrom-at (n ∷ arities) zero g row d h =
       ap (λ (i : ℕ). getD (tablesFrom st states g (n ∷ arities)) i 0) (zero-add c)
-      ∙ List·getD-append (segment g n) (tablesFrom st states (suc g) arities) 0 c (subst (λ (k : ℕ). c < k) (sym (length-segment g n)) c-lt)
+      ∙ List·getD-append (tableSegment g n) (tablesFrom st states (suc g) arities) 0 c (subst (λ (k : ℕ). c < k) (sym (length-segment g n)) c-lt)
       ∙ getD-table (length states ^ n) (λ c. cellOf st states g (rowOf (length states) n c)) 0 c c-lt
       ∙ ap₂ (cellOf st states) (sym (add-zero g)) (ap (λ (k : ℕ). rowOf (length states) k c) (d .1) ∙ row-of-cell (length states) row h)
     where
@@ -398,13 +398,13 @@ module _ (st : ℕ → List ℕ → ℕ) (states : List ℕ) where
       c-lt = subst (λ (k : ℕ). c < length states ^ k) (sym (d .1)) (cell-lt (length states) row h)
   tablesFrom-at (n ∷ arities) (suc f) g row d h =
       ap (λ (i : ℕ). getD (tablesFrom st states g (n ∷ arities)) i 0) place
-      ∙ getD-append-add (segment g n) (tablesFrom st states (suc g) arities) (start (length states) arities f + cell (length states) row) 0
+      ∙ getD-append-add (tableSegment g n) (tablesFrom st states (suc g) arities) (start (length states) arities f + cell (length states) row) 0
       ∙ tablesFrom-at arities f (suc g) row (le-of-suc-le-suc (d .0), d .1) h
       ∙ ap (λ (k : ℕ). cellOf st states k row) (suc-add g f ∙ sym (add-suc g f))
     where
       place :
           length states ^ n + start (length states) arities f + cell (length states) row
-          ≡ length (segment g n) + (start (length states) arities f + cell (length states) row)
+          ≡ length (tableSegment g n) + (start (length states) arities f + cell (length states) row)
       place = omega (arith, length-segment g n)
 
   pub tables-at :

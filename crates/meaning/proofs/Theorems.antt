@@ -272,7 +272,7 @@ module _ (file : List ℕ) (admitted : Admitted file) where
             λ c listed ν valuation body.
             inSheet
             (c .head .predicate)
-            (Clauses.statesOf (interpretationOf file) ν (c .head .arguments))
+            (Clauses.termStates (interpretationOf file) ν (c .head .arguments))
             .1 (
               Stages.head-atom (symbolArities file) (predicateArities file) (length (statesOf file)) (interpretationOf file) clauses range wellClauses c listed ν valuation,
               model-is-closed c listed ν valuation (All-map (c .body) (λ a w. inSheet _ _ .0 w .1) body),

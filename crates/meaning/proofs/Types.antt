@@ -9,7 +9,7 @@ use native.Mathlib.Nat.{zero-lt-suc, not-suc-le-zero, le-of-suc-le-suc, add-zero
 use lib.Dec.{T, eqb, ltb, eqb→eq, eqb-refl, lt→ltb}
 use borrow.Author.Tests.{eq-eqb}
 use lib.ListN.{length, getD}
-use Rattle.meaning.specs.Lists.{any, All}
+use Rattle.meaning.specs.Lists.{anyOf, All}
 use Rattle.meaning.specs.Syntax.{Tree, Trees, node, leaf, _▹_, Production}
 use Rattle.meaning.specs.Legal.{Declared}
 use Rattle.meaning.specs.Types.{has, Sym, numbered, signature, allowed, OfType, OfTypes, fits, step, typesOf, typesOfs}
@@ -45,15 +45,15 @@ module _ (productions : List Production) (types : ℕ) where
   -- what `step` holds
   pub step-lt : (f : ℕ) (row : List ℕ) → step productions types f row < 2 ^ types
   unfolding step
-  step-lt f row = setOf-lt types (λ q. any (gives f row q) productions)
+  step-lt f row = setOf-lt types (λ q. anyOf (gives f row q) productions)
 
-  step-has : (f : ℕ) (row : List ℕ) (q : ℕ) → has (step productions types f row) q ≡ (ltb q types && any (gives f row q) productions)
+  step-has : (f : ℕ) (row : List ℕ) (q : ℕ) → has (step productions types f row) q ≡ (ltb q types && anyOf (gives f row q) productions)
   unfolding step
-  step-has f row q = has-setOf types (λ q. any (gives f row q) productions) q
+  step-has f row q = has-setOf types (λ q. anyOf (gives f row q) productions) q
 
   step-find : (f : ℕ) (row : List ℕ) (q : ℕ) → T (has (step productions types f row) q) → (p : Production) × List·Memᴰ p productions × Gives f row q p
   step-find f row q t =
-      let w = any-find (gives f row q) productions (both (ltb q types) (any (gives f row q) productions) (subst T (step-has f row q) t) .1) in
+      let w = any-find (gives f row q) productions (both (ltb q types) (anyOf (gives f row q) productions) (subst T (step-has f row q) t) .1) in
       (w .0, w .1, gives-fact f row q (w .0) (w .2))
 
   step-give :
@@ -66,7 +66,7 @@ module _ (productions : List Production) (types : ℕ) where
       subst
       T
       (sym (step-has f row q))
-      (both-of (ltb q types) (any (gives f row q) productions) (lt→ltb q types lt) (any-give (gives f row q) productions p m (fact-gives f row q p h)))
+      (both-of (ltb q types) (anyOf (gives f row q) productions) (lt→ltb q types lt) (any-give (gives f row q) productions p m (fact-gives f row q p h)))
 
   -- the types of a ground term
   pub types-lt : (t : Tree) → typesOf productions types t < 2 ^ types

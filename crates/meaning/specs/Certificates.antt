@@ -7,7 +7,7 @@ use mathlib.Core.List.{List, [], _∷_, _++_, map, List·Memᴰ, List·Permᴰ}
 use mathlib.Core.Option.{Option, none, some}
 use lib.Dec.{eqb, ltb}
 use lib.ListN.{length, getD}
-use Rattle.meaning.specs.Lists.{any, all, anyBelow, All, same, lowest, joined, table}
+use Rattle.meaning.specs.Lists.{anyOf, allOf, anyBelow, All, same, lowest, joined, table}
 use Rattle.meaning.specs.Syntax.{Clause}
 use Rattle.meaning.specs.Limits.{stateTag, atomTag}
 use Rattle.meaning.specs.Fields.{Field, whole, cut, word, fields, contentsOf, encodeField, firstField}
@@ -80,11 +80,11 @@ abbrev pub wrongAtom : ℕ → List Field → Field → Bool
 wrongAtom m before cut = false
 wrongAtom m before (whole tag []) = false
 wrongAtom m before (whole tag (p ∷ row)) =
-    eqb tag atomTag && (not (all (λ d. ltb d m) row) || any (same (p ∷ row)) (contentsOf atomTag before))
+    eqb tag atomTag && (not (allOf (λ d. ltb d m) row) || anyOf (same (p ∷ row)) (contentsOf atomTag before))
 
 -- 13: an instance of the clause has its body among the atoms and its head not
 abbrev pub among : List (List ℕ) → ℕ → List ℕ → Bool
-among atoms p row = any (same (p ∷ row)) atoms
+among atoms p row = anyOf (same (p ∷ row)) atoms
 
 unfoldable pub violated : ℕ → (ℕ → List ℕ → ℕ) → List (List ℕ) → Clause → Bool
 violated m interpret atoms c =
@@ -92,7 +92,7 @@ violated m interpret atoms c =
     (m ^ c .variables)
     (λ n.
     let ν = rowOf m (c .variables) n in
-    all (instanceIn interpret ν (among atoms)) (c .body) && not (instanceIn interpret ν (among atoms) (c .head)))
+    allOf (instanceIn interpret ν (among atoms)) (c .body) && not (instanceIn interpret ν (among atoms) (c .head)))
 
 abbrev pub violatedAt : ℕ → (ℕ → List ℕ → ℕ) → List (List ℕ) → List Clause → ℕ → Bool
 violatedAt m interpret atoms [] i = false

@@ -6,7 +6,7 @@ use mathlib.Core.List.{List, [], _∷_}
 use mathlib.Core.Option.{Option, none, some}
 use lib.Dec.{eqb, leb, ltb}
 use lib.ListN.{length, getD}
-use Rattle.meaning.specs.Lists.{all}
+use Rattle.meaning.specs.Lists.{allOf}
 use Rattle.meaning.specs.Syntax.{Term, Terms, var, app, end, _▸_, Atom, Clause, Condition, isOf, notOf, free, Query}
 use Rattle.meaning.specs.Limits.{mostName, mostVariables, mostBody, firstVariable, freeByte}
 
@@ -40,7 +40,7 @@ nameByte b = leb 97 b && leb b 122 || (leb 48 b && leb b 57) || eqb b 91 || eqb 
 
 -- a name: 1 to 8 of these bytes
 abbrev pub isName : List ℕ → Bool
-isName bytes = leb 1 (length bytes) && leb (length bytes) mostName && all nameByte bytes
+isName bytes = leb 1 (length bytes) && leb (length bytes) mostName && allOf nameByte bytes
 
 -- a symbol or a predicate: arity, name
 abbrev pub isNamed : ℕ → List ℕ → Bool
@@ -56,7 +56,7 @@ abbrev pub isProduction : ℕ → List ℕ → List ℕ → Bool
 isProduction types arities [] = false
 isProduction types arities (target ∷ []) = false
 isProduction types arities (target ∷ symbol ∷ arguments) =
-    ltb target types && declared arities symbol (length arguments) && all (λ t. ltb t types) arguments
+    ltb target types && declared arities symbol (length arguments) && allOf (λ t. ltb t types) arguments
 
 module _ (arities : List ℕ) (variables : ℕ) where
   -- A byte 128 + i is variable i, below the field's variable count. Any other byte is a declared symbol, followed by as many terms as

@@ -1,20 +1,21 @@
 -- Lists, and tests and facts over lists and numbers. A test is a Bool and computes; `T test` is the fact that it passes.
-use Prim.Native.Nat.{ℕ, zero, suc}
+use Prim.Native.Nat.{ℕ, zero, suc, _-_}
 use mathlib.Core.Bool.{Bool, true, false, cond, _&&_, _||_}
 use mathlib.Core.List.{List, [], _∷_, _++_}
 use mathlib.Core.Option.{Option, none, some}
 use lib.Dec.{eqb}
+use lib.ListN.{length, replicate}
 
 module _ {A : Type 0} where
   -- some member passes
-  abbrev pub any : (A → Bool) → List A → Bool
-  any f [] = false
-  any f (x ∷ xs) = f x || any f xs
+  abbrev pub anyOf : (A → Bool) → List A → Bool
+  anyOf f [] = false
+  anyOf f (x ∷ xs) = f x || anyOf f xs
 
   -- every member passes
-  abbrev pub all : (A → Bool) → List A → Bool
-  all f [] = true
-  all f (x ∷ xs) = f x && all f xs
+  abbrev pub allOf : (A → Bool) → List A → Bool
+  allOf f [] = true
+  allOf f (x ∷ xs) = f x && allOf f xs
 
   -- a fact of every member
   abbrev pub All : (A → Type 0) → List A → Type 0
@@ -30,6 +31,10 @@ module _ {A : Type 0} where
   abbrev pub table : ℕ → (ℕ → A) → List A
   table zero f = []
   table (suc n) f = f 0 ∷ table n (λ i. f (suc i))
+
+-- the numbers in n places, with zeros behind them
+abbrev pub padded : ℕ → List ℕ → List ℕ
+padded n l = l ++ replicate (n - length l) 0
 
 -- some number below n passes
 abbrev pub anyBelow : ℕ → (ℕ → Bool) → Bool

@@ -5,7 +5,7 @@ use mathlib.Core.List.{List, [], _∷_, map}
 use mathlib.Core.Option.{Option, none, some}
 use lib.Dec.{eqb, leb, ltb}
 use lib.ListN.{length, getD, drop}
-use Rattle.meaning.specs.Lists.{any, same}
+use Rattle.meaning.specs.Lists.{anyOf, same}
 use Rattle.meaning.specs.Limits.{Kind, symbol, type, production, predicate, clause, query, tagOf, mostOf, mostSymbolArity, mostPredicateArity, mostContent}
 use Rattle.meaning.specs.Fields.{Field, whole, cut, contentsOf, firstField}
 use Rattle.meaning.specs.Contents.{isSome, isName, isNamed, isProduction, readClause, readQuery}
@@ -109,7 +109,7 @@ malformed before (whole tag content) =
 abbrev pub nameTaken : List Field → Field → Bool
 nameTaken before cut = false
 nameTaken before (whole tag content) =
-    testKind (kindOf tag) (λ k. any (λ name. any (same name) (namesIn k (contents k before))) (namesIn k (content ∷ [])))
+    testKind (kindOf tag) (λ k. anyOf (λ name. anyOf (same name) (namesIn k (contents k before))) (namesIn k (content ∷ [])))
 
 -- the number with which a field is refused, by 2, 3, 6, 4, 5; 0 if none fits
 unfoldable pub refusal : List Field → Field → ℕ
@@ -126,4 +126,4 @@ firstRefused fs = firstField isRefused fs
 
 -- 7: no symbol of arity 0
 abbrev pub noConstant : List ℕ → Bool
-noConstant arities = not (any (λ n. eqb n 0) arities)
+noConstant arities = not (anyOf (λ n. eqb n 0) arities)

@@ -11,13 +11,13 @@ use Rattle.meaning.specs.Types.{Sym}
 use Rattle.meaning.specs.Cells.{rowOf}
 
 -- a number put into a rising list, once
-abbrev pub insert : ℕ → List ℕ → List ℕ
-insert s [] = s ∷ []
-insert s (x ∷ xs) = cond (ltb s x) (s ∷ x ∷ xs) (cond (eqb s x) (x ∷ xs) (x ∷ insert s xs))
+abbrev pub insertRising : ℕ → List ℕ → List ℕ
+insertRising s [] = s ∷ []
+insertRising s (x ∷ xs) = cond (ltb s x) (s ∷ x ∷ xs) (cond (eqb s x) (x ∷ xs) (x ∷ insertRising s xs))
 
 abbrev pub insertAll : List ℕ → List ℕ → List ℕ
 insertAll [] found = found
-insertAll (s ∷ ss) found = insert s (insertAll ss found)
+insertAll (s ∷ ss) found = insertRising s (insertAll ss found)
 
 -- the sets with these numbers
 abbrev pub setsAt : List ℕ → List ℕ → List ℕ

@@ -4,7 +4,7 @@ use mathlib.Core.Path.{_≡_}
 use mathlib.Core.Bool.{Bool, true, false, _&&_}
 use mathlib.Core.List.{List, [], _∷_, List·Memᴰ}
 use lib.Dec.{T, eqb}
-use Rattle.meaning.specs.Lists.{any}
+use Rattle.meaning.specs.Lists.{anyOf}
 use Rattle.meaning.specs.Syntax.{Tree, Trees, node, leaf, _▹_, treeCount, Production}
 
 -- type t is in the set: bit t of the number
@@ -35,7 +35,7 @@ unfoldable pub signature : List ℕ → List Sym
 signature arities = numbered 0 arities
 
 abbrev pub allowed : List ℕ → ℕ → ℕ → Bool
-allowed arities f n = any (λ (s : Sym). eqb (s .symbol) f && eqb (s .arity) n) (signature arities)
+allowed arities f n = anyOf (λ (s : Sym). eqb (s .symbol) f && eqb (s .arity) n) (signature arities)
 
 module _ (arities : List ℕ) where
   abbrev mutual
@@ -70,7 +70,7 @@ module _ (productions : List Production) (types : ℕ) where
   -- a symbol over a row of sets: all q that have a production q, f, q1, .., qn with each qi in the set at its place
   unfoldable pub step : ℕ → List ℕ → ℕ
   step f row =
-      setOf types (λ q. any (λ (p : Production). eqb (p .target) q && eqb (p .symbol) f && fits row (p .arguments)) productions)
+      setOf types (λ q. anyOf (λ (p : Production). eqb (p .target) q && eqb (p .symbol) f && fits row (p .arguments)) productions)
 
   -- the set of a ground term's types
   abbrev mutual

@@ -9,7 +9,7 @@ use native.Mathlib.Nat.{suc-sub-suc, sub-zero}
 use lib.Dec.{leb, ltb}
 use lib.ListN.{length, getD, drop}
 use borrow.Author.Tests.{le-leb, lt-leb, lt-ltb, le-ltb, eq-eqb, ne-eqb}
-use Rattle.meaning.specs.Lists.{all}
+use Rattle.meaning.specs.Lists.{allOf}
 use Rattle.meaning.specs.Limits.{mostName}
 use Rattle.meaning.specs.Contents.{nameByte, isName, isNamed, declared, isProduction}
 use Rattle.names.proofs.Bytes.{isBelow}
@@ -21,7 +21,7 @@ name-short s h = rw (lt-leb 1 (length s))
 pub name-long : (s : List ℕ) → mostName < length s → isName s ≡ false
 name-long s h = rw (lt-leb (length s) mostName, and-false)
 
-pub name-all : (s : List ℕ) → 1 ≤ length s → length s ≤ mostName → isName s ≡ all nameByte s
+pub name-all : (s : List ℕ) → 1 ≤ length s → length s ≤ mostName → isName s ≡ allOf nameByte s
 name-all s h k = rw (le-leb 1 (length s), le-leb (length s) mostName)
 
 -- a symbol or a predicate: its arity, and then its name
@@ -48,7 +48,7 @@ production-short types arities (x ∷ y ∷ s) h = absurd (omega arith)
 
 production-step : (types : ℕ) (arities s : List ℕ) → 2 ≤ length s
     → isProduction types arities s
-    ≡ (ltb (getD s 0 0) types && declared arities (getD s 1 0) (length s - 2) && all (isBelow types) (drop 2 s))
+    ≡ (ltb (getD s 0 0) types && declared arities (getD s 1 0) (length s - 2) && allOf (isBelow types) (drop 2 s))
 production-step types arities [] h = absurd (omega arith)
 production-step types arities (x ∷ []) h = absurd (omega arith)
 production-step types arities (x ∷ y ∷ s) h = rw (suc-sub-suc, suc-sub-suc, sub-zero)
@@ -67,7 +67,7 @@ module _ (types : ℕ) (arities s : List ℕ) (h : 2 ≤ length s) where
           production-step types arities s h
           ∙ rw (lt-ltb (getD s 0 0) types, lt-ltb (getD s 1 0) (length arities), ne-eqb (getD arities (getD s 1 0) 0) (length s - 2))
 
-      pub production-arguments : getD arities (getD s 1 0) 0 ≡ length s - 2 → isProduction types arities s ≡ all (isBelow types) (drop 2 s)
+      pub production-arguments : getD arities (getD s 1 0) 0 ≡ length s - 2 → isProduction types arities s ≡ allOf (isBelow types) (drop 2 s)
       production-arguments e =
           production-step types arities s h
           ∙ rw (lt-ltb (getD s 0 0) types, lt-ltb (getD s 1 0) (length arities), eq-eqb (getD arities (getD s 1 0) 0) (length s - 2))

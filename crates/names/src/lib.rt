@@ -1,7 +1,7 @@
 // Names, symbols, predicates and productions: whether the content of a field is as laid out.
 ghost use mathlib.Core.Path.{_≡_};
 ghost use lib.Dec.{ltb};
-ghost use Rattle.meaning.specs.Lists.{all, same};
+ghost use Rattle.meaning.specs.Lists.{allOf, same};
 ghost use Rattle.meaning.specs.Contents.{nameByte, isName, isNamed, isProduction};
 
 // a-z, 0-9, `[`, `]`, `_`, by a test with no branches.
@@ -46,7 +46,7 @@ pub fn is_named(s: &[u8], most: u8) -> bool
 
 // Whether all bytes are below a number.
 fn below(s: &[u8], types: u8) -> bool
-    ensures { λ r. ⌜ r ≡ all (λ t. ltb t types) (now (s .entry)) ⌝ }
+    ensures { λ r. ⌜ r ≡ allOf (λ t. ltb t types) (now (s .entry)) ⌝ }
 {
     let mut i = 0;
     while i < s.len() {

@@ -7,7 +7,7 @@ use mathlib.Core.List.{List, map, map-id}
 use native.Mathlib.Nat.{not-suc-le-zero}
 use native.Mathlib.Omega.{arith}
 use lib.ListN.{length, take, drop}
-use Rattle.meaning.specs.Lists.{any, same}
+use Rattle.meaning.specs.Lists.{anyOf, same}
 use Rattle.meaning.specs.Fields.{Front, frontOf}
 use Rattle.fields.specs.Found.{foundIn}
 use Rattle.fields.specs.declared.Found.{Found}
@@ -19,7 +19,7 @@ use Rattle.fields.proofs.Fronts.{found-whole, found-cut, found-end, front-rest,
 
 -- the name is that of one of the next `left` fields, past the first few bytes of the content
 unfoldable pub named : List ℕ → ℕ → List ℕ → ℕ → ℕ → Bool
-named name skip file left at = any (same name) (map (drop skip) (contentsFrom left (drop at file)))
+named name skip file left at = anyOf (same name) (map (drop skip) (contentsFrom left (drop at file)))
 
 -- a field that was found lies inside the file
 pub inside : (file : List ℕ) (at : ℕ) {tag len : ℕ} {f : Found} → f ≡ foundIn (frontOf (drop at file)) → f ≡ Whole tag len → at + 3 + len ≤ length file
@@ -36,11 +36,11 @@ module _ (name : List ℕ) (skip : ℕ) (file : List ℕ) where
   module _ (left at : ℕ) (h : 0 < left) where
     -- by what stands at the position
     onFirst : Front → Bool
-    onFirst f = any (same name) (map (drop skip) (onContent f (λ rest. contentsFrom (left - 1) rest)))
+    onFirst f = anyOf (same name) (map (drop skip) (onContent f (λ rest. contentsFrom (left - 1) rest)))
 
     first : named name skip file left at ≡ onFirst (frontOf (drop at file))
     unfolding named onFirst
-    first = let e : left ≡ suc (left - 1) = omega arith in ap (λ (n : ℕ). any (same name) (map (drop skip) (contentsFrom n (drop at file)))) e
+    first = let e : left ≡ suc (left - 1) = omega arith in ap (λ (n : ℕ). anyOf (same name) (map (drop skip) (contentsFrom n (drop at file)))) e
 
     module _ {f : Found} (found : f ≡ foundIn (frontOf (drop at file))) where
       pub named-cut : f ≡ Cut → named name skip file left at ≡ false
@@ -61,7 +61,7 @@ module _ (name : List ℕ) (skip : ℕ) (file : List ℕ) where
             let place : at + (3 + length (w .0)) ≡ at + 3 + len = omega (arith, w .3) in
             first
             ∙ (ap onFirst (w .2)
-            ∙ ap₂ (λ (c rest : List ℕ). same name (drop skip c) || any (same name) (map (drop skip) (contentsFrom (left - 1) rest))) content
+            ∙ ap₂ (λ (c rest : List ℕ). same name (drop skip c) || anyOf (same name) (map (drop skip) (contentsFrom (left - 1) rest))) content
             (front-rest file at tag (w .0) (w .1) (w .2) ∙ ap (λ (n : ℕ). drop n file) place))
 
         -- by what comparing with the field's name gives
@@ -83,12 +83,12 @@ module _ (file : List ℕ) (known : Known) (content : List ℕ) {tag t : ℕ} (i
   pub taken-name : {name : List ℕ}
       → name ≡ drop 1 content
       → (tag ≡ 1) ⊎ (tag ≡ 4)
-      → r ≡ any (same name) (map (drop 1) (earlierIn file known t))
+      → r ≡ anyOf (same name) (map (drop 1) (earlierIn file known t))
       → r ≡ isTaken file known tag content
   taken-name n is e =
-      let one : r ≡ (any (same (drop 1 content)) (map (drop 1) (earlierIn file known t)) || false) =
-      e ∙ (ap (λ (l : List ℕ). any (same l) (map (drop 1) (earlierIn file known t))) n ∙ sym (or-false _)) in
+      let one : r ≡ (anyOf (same (drop 1 content)) (map (drop 1) (earlierIn file known t)) || false) =
+      e ∙ (ap (λ (l : List ℕ). anyOf (same l) (map (drop 1) (earlierIn file known t))) n ∙ sym (or-false _)) in
       ⊎-elim (λ q. at-tag 1 q one) (λ q. at-tag 4 q one) is
 
-  pub taken-type : tag ≡ 2 → r ≡ any (same content) (map (drop 0) (earlierIn file known t)) → r ≡ isTaken file known tag content
-  taken-type q e = at-tag 2 q (e ∙ (ap (any (same content)) (map-id (earlierIn file known t)) ∙ sym (or-false _)))
+  pub taken-type : tag ≡ 2 → r ≡ anyOf (same content) (map (drop 0) (earlierIn file known t)) → r ≡ isTaken file known tag content
+  taken-type q e = at-tag 2 q (e ∙ (ap (anyOf (same content)) (map-id (earlierIn file known t)) ∙ sym (or-false _)))

@@ -7,7 +7,7 @@ use mathlib.Core.List.{List, [], _∷_}
 use mathlib.Core.Option.{Option, none, some}
 use lib.Dec.{leb, ltb, lit<}
 use lib.ListN.{length, getD, take, drop}
-use Rattle.meaning.specs.Lists.{any, same}
+use Rattle.meaning.specs.Lists.{anyOf, same}
 use Rattle.meaning.specs.Limits.{Kind, tagOf, mostOf, mostContent}
 use Rattle.meaning.specs.Fields.{Field, whole, contentsOf}
 use Rattle.meaning.specs.Contents.{isSome}
@@ -17,7 +17,7 @@ use Rattle.meaning.proofs.ByKind.{kind-tag, tag-range}
 use Rattle.fields.specs.Found.{contentsFrom}
 use Rattle.refusals.proofs.Knowing.{count-of, start-of, known-symbols, known-predicates}
 use Rattle.refusals.specs.declared.Known.{Known}
-use Rattle.refusals.specs.Tests.{wrongTagAfter, full, knownTypes, knownSymbols, knownPredicates, earlierIn, isFull, isMalformed, isTaken, numbered, Stands}
+use Rattle.refusals.specs.Tests.{wrongTagAfter, full, knownTypes, knownSymbols, knownPredicates, earlierIn, isFull, isMalformed, isTaken, fieldAnswer, Stands}
 
 -- 3, 6, 4 or 5 by the first test that passes, 0 if none does
 first : Bool → Bool → Bool → Bool → ℕ
@@ -46,10 +46,10 @@ module _ (file : List ℕ) (known : Known) (last : ℕ) (done : List Field) (s :
             → cond (not (isSome o) || ltb tag (lastTag done)) 3
             (cond (testKind o (λ k. leb (mostOf k) (length (contents k done)))) 6
             (cond (testKind o (λ k. long || not (laidOutAfter done k content))) 4
-            (cond (testKind o (λ k. any (λ name. any (same name) (namesIn k (contents k done))) (namesIn k (content ∷ [])))) 5 0)))
+            (cond (testKind o (λ k. anyOf (λ name. anyOf (same name) (namesIn k (contents k done))) (namesIn k (content ∷ [])))) 5 0)))
             ≡ first (not (isSome o) || ltb tag last) (testKind o (λ k. leb (mostOf k) (getD (known .counts) tag 0)))
             (long || not (testKind o (λ k. laidOut (knownTypes known) (knownSymbols known) (knownPredicates known) k content)))
-            (testKind o (λ k. any (λ name. any (same name) (namesIn k (earlierIn file known tag))) (namesIn k (content ∷ []))))
+            (testKind o (λ k. anyOf (λ name. anyOf (same name) (namesIn k (earlierIn file known tag))) (namesIn k (content ∷ []))))
         go none p = refl
         go (some k) p = rw (p, s .tag, earlier-known (tagOf k) (tag-range k .1), known-symbols known done (s .knows), known-predicates known done (s .knows), count-known 2 (lit< tt), count-known (tagOf k) (tag-range k .1))
 
@@ -60,14 +60,14 @@ contentAt file at len = take len (drop (at + 3) file)
 -- an answer that is the number of the field at a position, whatever the fields before it are
 abbrev pub Judged : List ℕ → Known → ℕ → ℕ → ℕ → ℕ → ℕ → Answer → Type 0
 Judged file known last tag at len k answer =
-    (done : List Field) → Stands file known last done → answer ≡ numbered k (refusal done (whole tag (contentAt file at len)))
+    (done : List Field) → Stands file known last done → answer ≡ fieldAnswer k (refusal done (whole tag (contentAt file at len)))
 
 -- The ways out of `judge`, each with what the calls before it gave
 module _ (file : List ℕ) (known : Known) (last tag at len k : ℕ) where
   judged : (n : ℕ)
       → first (wrongTagAfter tag last) (isFull known tag) (isMalformed known tag (contentAt file at len)) (isTaken file known tag (contentAt file at len)) ≡ n
-      → Judged file known last tag at len k (numbered k n)
-  judged n e done s = sym (ap (numbered k) (refusal-known file known last done s tag (contentAt file at len) ∙ e))
+      → Judged file known last tag at len k (fieldAnswer k n)
+  judged n e done s = sym (ap (fieldAnswer k) (refusal-known file known last done s tag (contentAt file at len) ∙ e))
 
   module _ {wrong : Bool} (tagged : wrong ≡ wrongTagAfter tag last) where
     pub wrong-tag : wrong ≡ true → Judged file known last tag at len k (refused 3 k)

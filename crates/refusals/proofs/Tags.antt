@@ -8,7 +8,7 @@ use mathlib.Core.Option.{Option, none, some}
 use native.Mathlib.Omega.{arith}
 use lib.Dec.{ltb}
 use borrow.Author.Tests.{lt-ltb}
-use Rattle.meaning.specs.Lists.{any, same}
+use Rattle.meaning.specs.Lists.{anyOf, same}
 use Rattle.meaning.specs.Limits.{Kind, symbol, type, production, predicate, clause, query, tagOf}
 use Rattle.meaning.specs.Contents.{isSome}
 use Rattle.meaning.specs.Refusals.{kindOf, testKind, namesIn}
@@ -58,7 +58,7 @@ no-name t earlier content a b d = go (kindOf t) (kind-tag t)
   where
     go : (o : Option Kind)
         → Post (λ (k : Kind). t ≡ tagOf k) o
-        → testKind o (λ k. any (λ name. any (same name) (namesIn k earlier)) (namesIn k (content ∷ []))) ≡ false
+        → testKind o (λ k. anyOf (λ name. anyOf (same name) (namesIn k earlier)) (namesIn k (content ∷ []))) ≡ false
     go none p = refl
     go (some symbol) p = absurd (a p)
     go (some type) p = absurd (b p)

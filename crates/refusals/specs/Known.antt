@@ -1,12 +1,12 @@
 -- What reading keeps of some fields: how many of each kind, where each kind starts, the arities; and the fields that were read.
-use Prim.Native.Nat.{ℕ, _+_, _-_}
+use Prim.Native.Nat.{ℕ, _+_}
 use mathlib.Core.Path.{_≡_}
 use mathlib.Core.Bool.{cond}
-use mathlib.Core.List.{List, [], _∷_, _++_}
+use mathlib.Core.List.{List, [], _∷_}
 use mathlib.Core.Option.{Option, none, some}
 use lib.Dec.{eqb, ltb}
-use lib.ListN.{length, take, replicate}
-use Rattle.meaning.specs.Lists.{table}
+use lib.ListN.{length, take}
+use Rattle.meaning.specs.Lists.{table, padded}
 use Rattle.meaning.specs.Limits.{symbol, predicate, mostOf, mostFileBytes}
 use Rattle.meaning.specs.Fields.{Field, whole, cut, fields, contentsOf}
 use Rattle.meaning.specs.Refusals.{aritiesIn, firstRefused}
@@ -27,10 +27,6 @@ firstAt tag at (whole t content ∷ fs) = cond (eqb t tag) at (firstAt tag (at +
 
 abbrev pub startsOf : List Field → List ℕ
 startsOf fs = table tags (λ t. firstAt t 0 fs)
-
--- a list in an array of n, with zeros behind it
-abbrev pub padded : ℕ → List ℕ → List ℕ
-padded n l = l ++ replicate (n - length l) 0
 
 pub record Knows (known : Known) (fs : List Field) : Type 0 where
   pub counts : known .counts ≡ countsOf fs

@@ -1,3 +1,3 @@
 pub mod Known
-pub mod Verdict
+pub mod Refusal
 pub mod Tests

@@ -5,7 +5,7 @@ use mathlib.Core.Bool.{Bool, cond, not, _||_}
 use mathlib.Core.List.{List, [], _∷_}
 use lib.Dec.{eqb, leb, ltb}
 use lib.ListN.{length, getD, take, drop}
-use Rattle.meaning.specs.Lists.{any, same}
+use Rattle.meaning.specs.Lists.{anyOf, same}
 use Rattle.meaning.specs.Limits.{mostOf, mostContent}
 use Rattle.meaning.specs.Fields.{Field, contentsOf}
 use Rattle.meaning.specs.Contents.{isSome}
@@ -36,7 +36,7 @@ knownPredicates known = take (getD (known .counts) 4 0) (known .predicates)
 
 -- the name in a content stands in one of the earlier contents of its kind
 abbrev pub takenIn : ℕ → List (List ℕ) → List ℕ → Bool
-takenIn tag earlier content = testKind (kindOf tag) (λ k. any (λ name. any (same name) (namesIn k earlier)) (namesIn k (content ∷ [])))
+takenIn tag earlier content = testKind (kindOf tag) (λ k. anyOf (λ name. anyOf (same name) (namesIn k earlier)) (namesIn k (content ∷ [])))
 
 -- the contents of a tag, found where they start
 abbrev pub earlierIn : List ℕ → Known → ℕ → List (List ℕ)
@@ -57,8 +57,8 @@ abbrev pub isTaken : List ℕ → Known → ℕ → List ℕ → Bool
 isTaken file known tag content = takenIn tag (earlierIn file known tag) content
 
 -- a refusal of field k by a number, none by 0
-abbrev pub numbered : ℕ → ℕ → Answer
-numbered k n = cond (eqb n 0) accepted (refused n k)
+abbrev pub fieldAnswer : ℕ → ℕ → Answer
+fieldAnswer k n = cond (eqb n 0) accepted (refused n k)
 
 -- what reading knows of the fields before a field, and where it finds their contents
 pub record Stands (file : List ℕ) (known : Known) (last : ℕ) (done : List Field) : Type 0 where
@@ -67,6 +67,6 @@ pub record Stands (file : List ℕ) (known : Known) (last : ℕ) (done : List Fi
   pub found : (t : ℕ) → contentsFrom (length (contentsOf t done)) (drop (firstAt t 0 done) file) ≡ contentsOf t done
 
 -- the counts are within the arrays, which are as long as their types say
-abbrev pub Within : Known → Type 0
-Within known =
+abbrev pub CountsFit : Known → Type 0
+CountsFit known =
     (getD (known .counts) 1 0 ≤ 24) × (getD (known .counts) 4 0 ≤ 16) × (length (known .symbols) ≡ 24) × (length (known .predicates) ≡ 16)

@@ -4,12 +4,12 @@ ghost use Prim.Native.Nat.{_+_, _≤_};
 ghost use mathlib.Core.Path.{_≡_};
 ghost use mathlib.Core.List.{List, map};
 ghost use lib.ListN.{length, take, drop};
-ghost use Rattle.meaning.specs.Lists.{any, same};
+ghost use Rattle.meaning.specs.Lists.{anyOf, same};
 ghost use Rattle.meaning.specs.Fields.{Field, whole};
 ghost use Rattle.meaning.specs.Refusals.{refusal};
 ghost use Rattle.fields.specs.Found.{contentsFrom};
-ghost use Rattle.refusals.specs.Tests.{wrongTagAfter, full, isLaid, isMalformed, isTaken, numbered, Stands, Within};
-ghost use Rattle.refusals.specs.Verdict.{answerOf};
+ghost use Rattle.refusals.specs.Tests.{wrongTagAfter, full, isLaid, isMalformed, isTaken, fieldAnswer, Stands, CountsFit};
+ghost use Rattle.refusals.specs.Refusal.{answerOf};
 
 // What reading keeps of the fields read so far. The first two go by tag; their place 0 is not used.
 pub struct Known {
@@ -22,9 +22,9 @@ pub struct Known {
     pub predicates: [u8; 16],
 }
 
-// The answer to reading, with the place of a refusal.
-pub enum Verdict {
-    Accepted,
+// Why a file is refused, with the place; or that it is not.
+pub enum Refusal {
+    None,
     TooLong,
     Cut(usize),
     WrongTag(usize),
@@ -64,7 +64,7 @@ fn is_full(tag: u8, count: u8) -> bool
 
 // Whether a content is as laid out for its kind, its length aside, by what is declared.
 fn is_laid_out(content: &[u8], tag: u8, known: Known) -> bool
-    requires { ⌜ Within known ⌝ }
+    requires { ⌜ CountsFit known ⌝ }
     ensures { λ r. ⌜ r ≡ isLaid known tag (now (content .entry)) ⌝ }
 {
     let counts = known.counts;
@@ -86,7 +86,7 @@ fn is_laid_out(content: &[u8], tag: u8, known: Known) -> bool
 
 // Whether a content is over 250 bytes, or not as laid out.
 fn is_malformed(content: &[u8], tag: u8, known: Known) -> bool
-    requires { ⌜ Within known ⌝ }
+    requires { ⌜ CountsFit known ⌝ }
     ensures { λ r. ⌜ r ≡ isMalformed known tag (now (content .entry)) ⌝ }
 {
     if 250 < content.len() {
@@ -108,7 +108,7 @@ fn rest(s: &[u8], skip: usize) -> &[u8]
 
 // Whether a name stands in one of the next fields, past the first few bytes of the content.
 fn is_named_before(file: &[u8], from: usize, count: u8, skip: usize, name: &[u8]) -> bool
-    ensures { λ r. ⌜ r ≡ any (same (now (name .entry))) (map (drop skip) (contentsFrom count (drop from (now (file .entry))))) ⌝ }
+    ensures { λ r. ⌜ r ≡ anyOf (same (now (name .entry))) (map (drop skip) (contentsFrom count (drop from (now (file .entry))))) ⌝ }
 {
     let mut at = from;
     let mut left = count;
@@ -156,24 +156,24 @@ pub fn judge(
     last: u8,
     known: Known,
     k: usize,
-) -> Verdict
-    requires { ⌜ (at + 3 + len ≤ length (now file)) × Within known ⌝ }
-    ensures { λ r. ⌜ ((done : List Field) → Stands (now (file .entry)) known last done → answerOf r ≡ numbered k (refusal done (whole tag (take len (drop (at + 3) (now (file .entry))))))) ⌝ }
+) -> Refusal
+    requires { ⌜ (at + 3 + len ≤ length (now file)) × CountsFit known ⌝ }
+    ensures { λ r. ⌜ ((done : List Field) → Stands (now (file .entry)) known last done → answerOf r ≡ fieldAnswer k (refusal done (whole tag (take len (drop (at + 3) (now (file .entry))))))) ⌝ }
 {
     if is_wrong_tag(tag, last) {
-        return Verdict::WrongTag(k);
+        return Refusal::WrongTag(k);
     }
     let counts = known.counts;
     let t = wide(tag);
     if is_full(tag, counts[t]) {
-        return Verdict::TooMany(k);
+        return Refusal::TooMany(k);
     }
     let content = fields::content(file, at, len);
     if is_malformed(content, tag, known) {
-        return Verdict::Malformed(k);
+        return Refusal::Malformed(k);
     }
     if is_name_taken(file, tag, known, content) {
-        return Verdict::NameTaken(k);
+        return Refusal::NameTaken(k);
     }
-    Verdict::Accepted
+    Refusal::None
 }

@@ -28,7 +28,7 @@ use Rattle.runs.specs.Bringing.{PresentOnly}
 use Rattle.model.specs.Rounds.{Modelling}
 use Rattle.verdicts.specs.Asking.{Asking}
 use Rattle.cells.specs.Starts.{Starts}
-use Rattle.results.specs.Handed.{Handed, Lent, Queries, verdictIn}
+use Rattle.results.specs.Handed.{Handed, EngineBuffers, Queries, verdictIn}
 use Rattle.results.proofs.Fronts.{holds-room, holds-first}
 use Rattle.results.proofs.Handed as laws
 
@@ -162,7 +162,7 @@ pub lent-empty : (known : Known) (preds : List ℕ) (clauses most codes plans ma
     → getD (known .counts) 5 0 ≤ clauses
     → length preds ≤ most
     → (clauses * codeSize ≤ codes) × (clauses * planSize ≤ plans) × (most * bothMasks ≤ masks) × (most * stageMasks ≤ heads)
-    → Lent known preds (replicate codes 0) (replicate plans 0) (replicate masks 0) (replicate heads 0)
+    → EngineBuffers known preds (replicate codes 0) (replicate plans 0) (replicate masks 0) (replicate heads 0)
 lent-empty known preds clauses most codes plans masks heads few short fits =
     record {
       coded = room (getD (known .counts) 5 0) clauses codeSize codes few (fits .0);

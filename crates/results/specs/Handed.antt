@@ -32,7 +32,7 @@ pub record Handed (file : List ℕ) (known : Known) (symbols preds : List ℕ) (
   pub table : tables ≡ written (tablesOf file) tables
 
 -- buffers that are lent for the programs, the masks and the sets of marked atoms: large enough, and the sets empty
-pub record Lent (known : Known) (preds codes plans masks heads : List ℕ) : Type 0 where
+pub record EngineBuffers (known : Known) (preds codes plans masks heads : List ℕ) : Type 0 where
   pub coded : getD (known .counts) 5 0 * codeSize ≤ length codes
   pub planned : getD (known .counts) 5 0 * planSize ≤ length plans
   pub masked : length preds * bothMasks ≤ length masks

@@ -8,7 +8,7 @@ use lib.Dec.{eqb}
 use lib.ListN.{length, getD, drop, drop-of-length-le}
 use lib.Seq.{drop-cons}
 use borrow.Author.Tests.{eq-eqb, ne-eqb}
-use Rattle.meaning.specs.Lists.{any}
+use Rattle.meaning.specs.Lists.{anyOf}
 use Rattle.meaning.specs.Refusals.{noConstant}
 
 module _ (l : List ℕ) (i : ℕ) where
@@ -16,7 +16,7 @@ module _ (l : List ℕ) (i : ℕ) where
   constant-nowhere h = ap noConstant (drop-of-length-le l h)
 
   module _ (h : i < length l) where
-    step : noConstant (drop i l) ≡ not (eqb (getD l i 0) 0 || any (λ n. eqb n 0) (drop (i + 1) l))
+    step : noConstant (drop i l) ≡ not (eqb (getD l i 0) 0 || anyOf (λ n. eqb n 0) (drop (i + 1) l))
     step = rw (add-one i) (ap noConstant (drop-cons l i 0 h))
 
     pub constant-here : getD l i 0 ≡ 0 → noConstant (drop i l) ≡ false

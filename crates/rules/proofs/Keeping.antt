@@ -10,7 +10,7 @@ use lib.Dec.{T, eqb, eqb→eq, eqb-refl, eqb·suc-zero}
 use native.Mathlib.Decide.{ℕ-discrete}
 use lib.ListN.{length, getD, set, replicate, length-append, length-replicate}
 use lib.Seq.{set-append-seam}
-use Rattle.meaning.specs.Lists.{All, table}
+use Rattle.meaning.specs.Lists.{All, table, padded}
 use Rattle.meaning.specs.Limits.{Kind, symbol, predicate, tagOf, mostOf}
 use Rattle.meaning.specs.Refusals.{contents, firstByte, aritiesIn, isCut}
 use Rattle.meaning.specs.Fields.{Field, whole, cut, contentsOf}
@@ -19,7 +19,7 @@ use Rattle.meaning.proofs.Fields.{contentsOf-append}
 use Rattle.rules.specs.Read.{bytesIn, startedAt, roomFor}
 use Rattle.refusals.specs.declared.Known.{Known}
 use Rattle.refusals.proofs.Knowing.{length-arities, count-of}
-use Rattle.refusals.specs.Known.{tags, countsOf, firstAt, startsOf, padded, Knows}
+use Rattle.refusals.specs.Known.{tags, countsOf, firstAt, startsOf, Knows}
 
 -- an array is full; an array with one more in it
 pub length-padded : (n : ℕ) (l : List ℕ) → length l ≤ n → length (padded n l) ≡ n

@@ -18,7 +18,7 @@ use Rattle.meaning.specs.Limits.{symbol}
 use Rattle.meaning.specs.Files.{answerAt, rulesIn}
 use Rattle.meaning.proofs.Lists.{decide, cond-yes, cond-no, not-intro}
 use Rattle.meaning.proofs.Fields.{first-after, fields-step, NoField, NoField-append, firstField-none}
-use Rattle.meaning.proofs.ByKind.{lastTag-snoc, Rising, contents-below}
+use Rattle.meaning.proofs.ByKind.{lastTag-snoc, TagsRise, contents-below}
 use Rattle.meaning.proofs.Acceptance.{arities-named}
 use Rattle.fields.proofs.Fronts.{front-rest, front-inside}
 use Rattle.fields.specs.Found.{contentsFrom, onContent}
@@ -62,7 +62,7 @@ chain-whole file a (whole t d ∷ fs) next c = (tt, chain-whole file (a + (3 + l
 
 -- the contents of a tag stand one after the other, from the first
 contents-in-row : (file : List ℕ) (tag a : ℕ) (fs : List Field) (next : ℕ)
-    → Rising tag 7 fs
+    → TagsRise tag 7 fs
     → Chain file a fs next
     → contentsFrom (length (contentsOf tag fs)) (drop a file) ≡ contentsOf tag fs
 contents-in-row file tag a [] next r c = refl
@@ -76,17 +76,17 @@ contents-in-row file tag a (whole t d ∷ fs) next r c = ⊎-elim (λ e. here e 
     above lt = subst Goal (sym (contents-below tag t 7 (whole t d ∷ fs) lt (le-refl t, r .1, r .2))) refl
 
     here : tag ≡ t
-        → (Rising tag 7 fs → contentsFrom (length (contentsOf tag fs)) (drop (a + (3 + length d)) file) ≡ contentsOf tag fs)
+        → (TagsRise tag 7 fs → contentsFrom (length (contentsOf tag fs)) (drop (a + (3 + length d)) file) ≡ contentsOf tag fs)
         → Goal (contentsOf tag (whole t d ∷ fs))
     here e rec =
         subst
         Goal
         (sym (ap (λ (l : List (List ℕ)). l ++ contentsOf tag fs) (cond-yes (eqb t tag) (d ∷ []) [] (subst (λ (n : ℕ). T (eqb n tag)) e (eqb-refl tag)))))
         (ap (λ (f : Front). onContent f (λ rest. contentsFrom (length (contentsOf tag fs)) rest)) (c .0)
-        ∙ ap (λ (l : List (List ℕ)). d ∷ l) (rec (subst (λ (n : ℕ). Rising n 7 fs) (sym e) (r .2))))
+        ∙ ap (λ (l : List (List ℕ)). d ∷ l) (rec (subst (λ (n : ℕ). TagsRise n 7 fs) (sym e) (r .2))))
 
 pub contents-found : (file : List ℕ) (tag u a : ℕ) (fs : List Field) (next : ℕ)
-    → Rising u 7 fs
+    → TagsRise u 7 fs
     → Chain file a fs next
     → contentsFrom (length (contentsOf tag fs)) (drop (firstAt tag a fs) file) ≡ contentsOf tag fs
 contents-found file tag u a [] next r c = refl

@@ -18,11 +18,11 @@ use Rattle.meaning.proofs.ByKind.{WellFields, tag-range, fine-well, fine-some}
 use Rattle.fields.specs.Found.{foundIn}
 use Rattle.fields.specs.declared.Found.the-variants.{Whole}
 use Rattle.refusals.specs.declared.Known.{Known}
-use Rattle.refusals.specs.declared.Verdict.{Verdict}
+use Rattle.refusals.specs.declared.Refusal.{Refusal}
 use Rattle.refusals.specs.Known.{Knows}
-use Rattle.refusals.specs.Verdict.{answerOf}
+use Rattle.refusals.specs.Refusal.{answerOf}
 use Rattle.fields.proofs.Fronts.{front-inside, front-content, found-whole}
-use Rattle.refusals.specs.Tests.{numbered, Stands, Within}
+use Rattle.refusals.specs.Tests.{fieldAnswer, Stands, CountsFit}
 use Rattle.rules.specs.Read.{roomFor, bytesIn, Outcome}
 use Rattle.refusals.proofs.Knowing.{count-of, length-arities}
 use Rattle.rules.proofs.Keeping.{length-padded}
@@ -41,7 +41,7 @@ module _ (file : List ℕ) (at k last : ℕ) (known : Known) (done : List Field)
   well : WellFields done
   well = fine-well done (r .fine)
 
-  pub within : Within known
+  pub within : CountsFit known
   within = (
     subst (λ (n : ℕ). n ≤ 24) (sym (count-of known done (r .knows) 1 (lit< tt))) (well .counts symbol),
     subst (λ (n : ℕ). n ≤ 16) (sym (count-of known done (r .knows) 4 (lit< tt))) (well .counts predicate),
@@ -69,11 +69,11 @@ module _ (file : List ℕ) (at k last : ℕ) (known : Known) (done : List Field)
   bytes-read = sym (chain-bytes file 0 done at (r .chain) ∙ zero-add (bytesIn done))
 
 -- a refusal of field k by a number
-pub numbered-none : (k n : ℕ) → T (ok (numbered k n)) → n ≡ 0
+pub numbered-none : (k n : ℕ) → T (ok (fieldAnswer k n)) → n ≡ 0
 numbered-none k zero t = refl
 numbered-none k (suc n) t = absurd (subst T (eqb·suc-zero n) (subst (λ (b : Bool). T (ok (cond b accepted (refused (suc n) k)))) (eqb·suc-zero n) t))
 
-pub numbered-some : (k n : ℕ) → T (not (ok (numbered k n))) → (n ≢ 0) × (numbered k n ≡ refused n k)
+pub numbered-some : (k n : ℕ) → T (not (ok (fieldAnswer k n))) → (n ≢ 0) × (fieldAnswer k n ≡ refused n k)
 numbered-some k zero t = absurd t
 numbered-some k (suc n) t = (suc-ne-zero n, ap (λ (b : Bool). cond b accepted (refused (suc n) k)) (eqb·suc-zero n))
 
@@ -97,7 +97,7 @@ module _ (file : List ℕ) (at k last : ℕ) (known : Known) (done : List Field)
   in-file = let h = here in omega (arith, front-inside file at tag contentHere (h .rest) (h .is), h .size)
 
   -- its answer is the refusal of the field; a refusal ends the reading, else it goes on
-  module _ (v : Verdict) (answers : answerOf v ≡ numbered k (refusal done (whole tag contentHere))) where
+  module _ (v : Refusal) (answers : answerOf v ≡ fieldAnswer k (refusal done (whole tag contentHere))) where
     pub refuses : T (not (ok (answerOf v))) → Outcome file (answerOf v) known
     refuses t =
         let w = numbered-some k (refusal done (whole tag contentHere)) (subst (λ (a : Answer). T (not (ok a))) answers t) in

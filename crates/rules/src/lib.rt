@@ -1,7 +1,7 @@
 // A rule file read and judged: refusals 1 to 7, and what was read.
 use fields::Found;
 use refusals::Known;
-use refusals::Verdict;
+use refusals::Refusal;
 ghost use Prim.Native.Nat.{ℕ, _+_, _≤_, _<_};
 ghost use mathlib.Core.Path.{_≡_};
 ghost use mathlib.Core.Bool.{not};
@@ -13,8 +13,8 @@ ghost use Rattle.meaning.specs.Fields.{Field, whole};
 ghost use Rattle.meaning.specs.Refusals.{firstByte, isCut, ok, refuseIf, noConstant};
 ghost use Rattle.meaning.specs.Files.{readAnswer};
 ghost use Rattle.refusals.specs.Known.{Knows, fieldsRead};
-ghost use Rattle.refusals.specs.Tests.{Within, knownSymbols};
-ghost use Rattle.refusals.specs.Verdict.{answerOf};
+ghost use Rattle.refusals.specs.Tests.{CountsFit, knownSymbols};
+ghost use Rattle.refusals.specs.Refusal.{answerOf};
 ghost use Rattle.rules.specs.Read.{startedAt, roomFor, bytesIn, Outcome};
 
 fn wide(b: u8) -> usize
@@ -90,23 +90,23 @@ fn with_field(known: Known, tag: u8, first: u8, at: usize) -> Known
 
 // The answer, and beside it what was read before it.
 pub struct Reading {
-    pub verdict: Verdict,
+    pub refusal: Refusal,
     pub known: Known,
 }
 
 // Whether nothing is refused.
-fn is_accepted(v: Verdict) -> bool
+fn is_accepted(v: Refusal) -> bool
     ensures { λ r. ⌜ r ≡ ok (answerOf v) ⌝ }
 {
     match v {
-        Verdict::Accepted => true,
-        Verdict::TooLong => false,
-        Verdict::Cut(_) => false,
-        Verdict::WrongTag(_) => false,
-        Verdict::Malformed(_) => false,
-        Verdict::NameTaken(_) => false,
-        Verdict::TooMany(_) => false,
-        Verdict::NoConstant(_) => false,
+        Refusal::None => true,
+        Refusal::TooLong => false,
+        Refusal::Cut(_) => false,
+        Refusal::WrongTag(_) => false,
+        Refusal::Malformed(_) => false,
+        Refusal::NameTaken(_) => false,
+        Refusal::TooMany(_) => false,
+        Refusal::NoConstant(_) => false,
     }
 }
 
@@ -135,23 +135,23 @@ fn has_no_zero(s: &[u8]) -> bool
 }
 
 // The answer after k fields, of which none is refused: 7 if no symbol is a constant.
-fn ending(known: Known, k: usize) -> Verdict
-    requires { ⌜ Within known ⌝ }
+fn ending(known: Known, k: usize) -> Refusal
+    requires { ⌜ CountsFit known ⌝ }
     ensures { λ r. ⌜ answerOf r ≡ refuseIf (noConstant (knownSymbols known)) 7 k ⌝ }
 {
     let counts = known.counts;
     let symbols = known.symbols;
     let n = wide(counts[1]);
     if has_no_zero(&symbols[..n]) {
-        return Verdict::NoConstant(k);
+        return Refusal::NoConstant(k);
     }
-    Verdict::Accepted
+    Refusal::None
 }
 
 // The fields one after the other, to the first that is refused or to the end of the file.
 fn read_fields(file: &[u8]) -> Reading
     requires { ⌜ length (now file) ≤ 32768 ⌝ }
-    ensures { λ r. ⌜ Outcome (now (file .entry)) (answerOf (r .verdict)) (r .known) ⌝ }
+    ensures { λ r. ⌜ Outcome (now (file .entry)) (answerOf (r .refusal)) (r .known) ⌝ }
 {
     let mut known = nothing();
     let mut at: usize = 0;
@@ -160,9 +160,9 @@ fn read_fields(file: &[u8]) -> Reading
     loop {
         match fields::field_at(file, at) {
             Found::Whole(tag, len) => {
-                let verdict = refusals::judge(file, at, len, tag, last, known, k);
-                if !is_accepted(verdict) {
-                    return Reading { verdict, known };
+                let refusal = refusals::judge(file, at, len, tag, last, known, k);
+                if !is_accepted(refusal) {
+                    return Reading { refusal, known };
                 }
                 let first = first_of(fields::content(file, at, len));
                 known = with_field(known, tag, first, at);
@@ -172,13 +172,13 @@ fn read_fields(file: &[u8]) -> Reading
             }
             Found::Cut => {
                 return Reading {
-                    verdict: Verdict::Cut(k),
+                    refusal: Refusal::Cut(k),
                     known,
                 }
             }
             Found::End => {
-                let verdict = ending(known, k);
-                return Reading { verdict, known };
+                let refusal = ending(known, k);
+                return Reading { refusal, known };
             }
         }
     }
@@ -186,12 +186,12 @@ fn read_fields(file: &[u8]) -> Reading
 
 // A rule file read: accepted, or refused with 1 to 7; and what was read before the refusal.
 pub fn read(file: &[u8]) -> Reading
-    ensures { λ r. ⌜ (answerOf (r .verdict) ≡ readAnswer (now (file .entry))) × Knows (r .known) (fieldsRead (now (file .entry))) ⌝ }
+    ensures { λ r. ⌜ (answerOf (r .refusal) ≡ readAnswer (now (file .entry))) × Knows (r .known) (fieldsRead (now (file .entry))) ⌝ }
 {
     if 32768 < file.len() {
         let known = nothing();
         return Reading {
-            verdict: Verdict::TooLong,
+            refusal: Refusal::TooLong,
             known,
         };
     }

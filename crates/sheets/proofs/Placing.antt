@@ -18,7 +18,7 @@ use Rattle.meaning.proofs.Fields.{fields-step, contentsOf-append, NoField, firs
 use Rattle.fields.specs.Found.{contentIn, nextIn}
 use Rattle.fields.proofs.Fronts.{front-rest}
 use Rattle.reader.specs.Tags.{tagIn}
-use Rattle.sheets.specs.Reading.{misplacedAfter, Placed}
+use Rattle.sheets.specs.Reading.{misplacedAfter, NoneMisplaced}
 
 -- an atom's content, by its first byte
 pub atom-nothing : (preds content : List ℕ) → length content ≡ 0 → false ≡ isAtomContent preds content
@@ -123,7 +123,7 @@ pub record Reads (sheet : List ℕ) (at i : ℕ) : Type 0 where
   pub count : length (contentsOf stateTag done) ≡ i
   pub fits : NoField (misplaced preds) done (fields (drop at sheet))
 
-pub reads-none : (sheet : List ℕ) → Placed sheet → Reads sheet 0 0
+pub reads-none : (sheet : List ℕ) → NoneMisplaced sheet → Reads sheet 0 0
 reads-none sheet p =
     record {
       preds = p .preds;

@@ -19,6 +19,6 @@ misplacedAfter preds atoms tag content =
     (cond (eqb tag atomTag) (not (isAtomContent preds content)) true)
 
 -- bytes to which 10 does not fit, for some predicates
-pub record Placed (sheet : List ℕ) : Type 0 where
+pub record NoneMisplaced (sheet : List ℕ) : Type 0 where
   pub preds : List ℕ
   pub fits : firstField (misplaced preds) (fields sheet) ≡ none

@@ -8,7 +8,7 @@ ghost use Rattle.meaning.specs.Lists.{lowest};
 ghost use Rattle.meaning.specs.Fields.{fields, firstField, word};
 ghost use Rattle.meaning.specs.Certificates.{isAtomContent, misplaced, statesIn, differ};
 ghost use Rattle.faults.specs.Faults.{faultAt};
-ghost use Rattle.sheets.specs.Reading.{misplacedAfter, Placed};
+ghost use Rattle.sheets.specs.Reading.{misplacedAfter, NoneMisplaced};
 
 fn wide(b: u8) -> usize
     ensures { λ r. ⌜ r ≡ b ⌝ }
@@ -80,7 +80,7 @@ fn word_of(content: &[u8]) -> u16
 
 // The first place where the sheet's states and the given ones differ, a missing or extra one included.
 pub fn first_difference(sheet: &[u8], states: &[u16]) -> Fault
-    requires { ⌜ Placed (now sheet) ⌝ }
+    requires { ⌜ NoneMisplaced (now sheet) ⌝ }
     ensures { λ r. ⌜ r ≡ faultAt (lowest (max (length (statesIn (fields (now (sheet .entry))))) (length (now (states .entry)))) (differ (statesIn (fields (now (sheet .entry)))) (now (states .entry)))) ⌝ }
 {
     let mut at: usize = 0;

@@ -13,12 +13,12 @@ use lib.Seq.{drop-cons}
 use Rattle.meaning.specs.Lists.{same, joined}
 use Rattle.meaning.specs.Limits.{mostStates}
 use Rattle.meaning.specs.Types.{Sym}
-use Rattle.meaning.specs.States.{insert, insertAll, reached, grow, saturate, determinise}
+use Rattle.meaning.specs.States.{insertRising, insertAll, reached, grow, saturate, determinise}
 use Rattle.meaning.proofs.Lists.{clash, same-eq, eq-same}
 use Rattle.meaning.proofs.Rising.{insert-longer, insertAll-longer}
 
 -- one more of the numbers put in
-pub insertAll-next : (ss l : List ℕ) (i : ℕ) → i < length ss → insertAll (drop i ss) l ≡ insert (getD ss i 0) (insertAll (drop (i + 1) ss) l)
+pub insertAll-next : (ss l : List ℕ) (i : ℕ) → i < length ss → insertAll (drop i ss) l ≡ insertRising (getD ss i 0) (insertAll (drop (i + 1) ss) l)
 insertAll-next ss l i h = rw (drop-cons ss i 0 h, add-one i)
 
 -- more numbers put in are not fewer

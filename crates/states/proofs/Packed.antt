@@ -10,30 +10,30 @@ use lib.ListN.{length, take, drop, replicate, length-append, length-take, length
 use lib.Seq.{take-append-le, drop-append-le, drop-append-add, take-at}
 use borrow.Author.Tests.{le-leb, lt-leb, leb-true, leb-false}
 use Rattle.meaning.specs.Limits.{mostStates}
-use Rattle.states.specs.Packed.{putAt, padded, Holds, packed, tooMany, countOf}
+use Rattle.states.specs.Packed.{putAt, paddedStates, Holds, packed, overfull, countOf}
 use Rattle.states.specs.declared.Count.the-variants.{Known, TooMany}
 use Rattle.states.specs.declared.States.{States}
 
 -- the numbers and the zeros behind them
-pub zeros : replicate mostStates 0 ≡ padded []
-unfolding padded
+pub zeros : replicate mostStates 0 ≡ paddedStates []
+unfolding paddedStates
 zeros = refl
 
-pub take-padded : (l : List ℕ) (n : ℕ) → n ≡ length l → take n (padded l) ≡ l
-unfolding padded
+pub take-padded : (l : List ℕ) (n : ℕ) → n ≡ length l → take n (paddedStates l) ≡ l
+unfolding paddedStates
 take-padded l n e = take-at l (replicate (mostStates - length l) 0) n (sym e)
 
 -- an array whose first n places are followed by zeros has so many numbers
 pub length-held : {sets : List ℕ} {n : ℕ} → Holds sets n → length (take n sets) ≡ n
-unfolding padded
+unfolding paddedStates
 length-held {sets} {n} h =
     let size : length sets ≡ length (take n sets) + (mostStates - length (take n sets)) =
     ap (λ (l : List ℕ). length l) (h .padding) ∙ simp (length-append, length-replicate) in
     omega (arith, length-take n sets, h .few)
 
-pub holds-again : (n : ℕ) (sets l : List ℕ) → n ≤ mostStates → n ≡ length l → sets ≡ padded l → Holds sets n
+pub holds-again : (n : ℕ) (sets l : List ℕ) → n ≤ mostStates → n ≡ length l → sets ≡ paddedStates l → Holds sets n
 holds-again n sets l few size held =
-    record { few = few; padding = held ∙ ap padded (sym (ap (take n) held ∙ take-padded l n size)) }
+    record { few = few; padding = held ∙ ap paddedStates (sym (ap (take n) held ∙ take-padded l n size)) }
 
 -- one more number
 pub length-put : (l : List ℕ) (i s : ℕ) → i ≤ length l → length (take i l ++ (s ∷ drop i l)) ≡ suc (length l)
@@ -43,8 +43,8 @@ pub padded-put :
     (l : List ℕ) (i s : ℕ)
     → length l < mostStates
     → i ≤ length l
-    → putAt (padded l) i (length l) s ≡ padded (take i l ++ (s ∷ drop i l))
-unfolding putAt padded
+    → putAt (paddedStates l) i (length l) s ≡ paddedStates (take i l ++ (s ∷ drop i l))
+unfolding putAt paddedStates
 padded-put l i s few h =
     ap₂ (λ (a b : List ℕ). a ++ (s ∷ b)) (take-append-le i l z h) (ap₂ _++_ middle behind)
     ∙ sym (append-assoc (take i l) (s ∷ drop i l) (replicate (mostStates - suc (length l)) 0))
@@ -66,22 +66,22 @@ padded-put l i s few h =
         left = omega arith
 
 -- the answer, from the list and back
-pub packed-known : (l : List ℕ) → length l ≤ mostStates → packed l ≡ record { count = Known (length l); sets = padded l }
+pub packed-known : (l : List ℕ) → length l ≤ mostStates → packed l ≡ record { count = Known (length l); sets = paddedStates l }
 unfolding packed
 packed-known l h = simp (le-leb (length l) mostStates h)
 
-pub packed-many : (l : List ℕ) → mostStates < length l → packed l ≡ tooMany
+pub packed-many : (l : List ℕ) → mostStates < length l → packed l ≡ overfull
 unfolding packed
 packed-many l h = simp (lt-leb (length l) mostStates h)
 
-pub known-is : {r : States} (l : List ℕ) {k : ℕ} → r ≡ packed l → r .count ≡ Known k → (k ≡ length l) × (length l ≤ mostStates) × (r .sets ≡ padded l)
+pub known-is : {r : States} (l : List ℕ) {k : ℕ} → r ≡ packed l → r .count ≡ Known k → (k ≡ length l) × (length l ≤ mostStates) × (r .sets ≡ paddedStates l)
 unfolding packed
 known-is {r} l {k} e f = go (leb (length l) mostStates) refl e
   where
     go : (b : Bool)
         → leb (length l) mostStates ≡ b
-        → r ≡ cond b (record { count = Known (length l); sets = padded l }) tooMany
-        → (k ≡ length l) × (length l ≤ mostStates) × (r .sets ≡ padded l)
+        → r ≡ cond b (record { count = Known (length l); sets = paddedStates l }) overfull
+        → (k ≡ length l) × (length l ≤ mostStates) × (r .sets ≡ paddedStates l)
     go true t e =
         let same : Known k ≡ Known (length l) = sym f ∙ ap (λ (x : States). x .count) e in
         (cc, leb-true (length l) mostStates t, ap (λ (x : States). x .sets) e)
@@ -95,24 +95,24 @@ module _ {r : States} (l : List ℕ) (few : length l ≤ mostStates) (e : r ≡ 
   pub count-is : countOf r ≡ length l
   count-is = ap countOf (e ∙ packed-known l few)
 
-  sets-are : r .sets ≡ padded l
+  sets-are : r .sets ≡ paddedStates l
   sets-are = ap (λ (x : States). x .sets) (e ∙ packed-known l few)
 
   pub count-fits : countOf r ≤ length (r .sets)
-  unfolding padded
+  unfolding paddedStates
   count-fits = omega (arith, count-is, ap length sets-are, length-append l (replicate (mostStates - length l) 0))
 
   pub counted-sets : take (countOf r) (r .sets) ≡ l
   counted-sets = ap (take (countOf r)) sets-are ∙ take-padded l (countOf r) count-is
 
-pub many-is : {r : States} (l : List ℕ) → r ≡ packed l → r .count ≡ TooMany → (mostStates < length l) × (r ≡ tooMany)
+pub many-is : {r : States} (l : List ℕ) → r ≡ packed l → r .count ≡ TooMany → (mostStates < length l) × (r ≡ overfull)
 unfolding packed
 many-is {r} l e f = go (leb (length l) mostStates) refl e
   where
     go : (b : Bool)
         → leb (length l) mostStates ≡ b
-        → r ≡ cond b (record { count = Known (length l); sets = padded l }) tooMany
-        → (mostStates < length l) × (r ≡ tooMany)
+        → r ≡ cond b (record { count = Known (length l); sets = paddedStates l }) overfull
+        → (mostStates < length l) × (r ≡ overfull)
     go true t e =
         let other : TooMany ≡ Known (length l) = sym f ∙ ap (λ (x : States). x .count) e in
         let z : _≡_ {A = ℕ} 0 1 = cc in

@@ -10,7 +10,7 @@ use lib.Dec.{leb, eqb}
 use lib.ListN.{length, getD, take, drop, set}
 use lib.Seq.{drop-cons, drop-length, append-snoc, set-split, take-suc-set, drop-set-lt}
 use borrow.Author.Tests.{leb-true, leb-false, le-ltb, lt-ltb, eq-eqb, ne-eqb}
-use Rattle.meaning.specs.States.{insert, indexOf}
+use Rattle.meaning.specs.States.{insertRising, indexOf}
 use Rattle.states.specs.Packed.{placeFor, putAt}
 
 -- `f` is the place of the first member that passes, the length if none does: found at place i, looked for further on, or nowhere
@@ -43,7 +43,7 @@ pub index-le : (s : ℕ) (l : List ℕ) → indexOf s l ≤ length l
 index-le s l = first-le (eqb s) (indexOf s) refl (λ x xs. refl) l
 
 -- a number that stands at its place is there already; any other is put there
-pub insert-same : (s : ℕ) (l : List ℕ) → placeFor s l < length l → getD l (placeFor s l) 0 ≡ s → insert s l ≡ l
+pub insert-same : (s : ℕ) (l : List ℕ) → placeFor s l < length l → getD l (placeFor s l) 0 ≡ s → insertRising s l ≡ l
 insert-same s [] h e = absurd (not-suc-le-zero h)
 insert-same s (x ∷ xs) h e = go (leb s x) refl h e (insert-same s xs)
   where
@@ -51,8 +51,8 @@ insert-same s (x ∷ xs) h e = go (leb s x) refl h e (insert-same s xs)
         → leb s x ≡ b
         → cond b 0 (suc (placeFor s xs)) < suc (length xs)
         → getD (x ∷ xs) (cond b 0 (suc (placeFor s xs))) 0 ≡ s
-        → (placeFor s xs < length xs → getD xs (placeFor s xs) 0 ≡ s → insert s xs ≡ xs)
-        → insert s (x ∷ xs) ≡ x ∷ xs
+        → (placeFor s xs < length xs → getD xs (placeFor s xs) 0 ≡ s → insertRising s xs ≡ xs)
+        → insertRising s (x ∷ xs) ≡ x ∷ xs
     go true t h e ih = simp (le-ltb s x (omega arith), eq-eqb s x (sym e))
     go false t h e ih =
         let lt : x < s = leb-false s x t in
@@ -61,15 +61,15 @@ insert-same s (x ∷ xs) h e = go (leb s x) refl h e (insert-same s xs)
 pub insert-new-at :
     (s : ℕ) (l : List ℕ)
     → (placeFor s l < length l → getD l (placeFor s l) 0 ≡ s → ⊥)
-    → insert s l ≡ take (placeFor s l) l ++ (s ∷ drop (placeFor s l) l)
+    → insertRising s l ≡ take (placeFor s l) l ++ (s ∷ drop (placeFor s l) l)
 insert-new-at s [] h = refl
 insert-new-at s (x ∷ xs) h = go (leb s x) refl h (insert-new-at s xs)
   where
     go : (b : Bool)
         → leb s x ≡ b
         → (cond b 0 (suc (placeFor s xs)) < suc (length xs) → getD (x ∷ xs) (cond b 0 (suc (placeFor s xs))) 0 ≡ s → ⊥)
-        → ((placeFor s xs < length xs → getD xs (placeFor s xs) 0 ≡ s → ⊥) → insert s xs ≡ take (placeFor s xs) xs ++ (s ∷ drop (placeFor s xs) xs))
-        → insert s (x ∷ xs)
+        → ((placeFor s xs < length xs → getD xs (placeFor s xs) 0 ≡ s → ⊥) → insertRising s xs ≡ take (placeFor s xs) xs ++ (s ∷ drop (placeFor s xs) xs))
+        → insertRising s (x ∷ xs)
         ≡ take (cond b 0 (suc (placeFor s xs))) (x ∷ xs) ++ (s ∷ drop (cond b 0 (suc (placeFor s xs))) (x ∷ xs))
     go true t h ih =
         let le : s ≤ x = leb-true s x t in

@@ -9,7 +9,7 @@ use Rattle.meaning.specs.Syntax.{Production}
 use Rattle.meaning.specs.Types.{Sym, step, signature}
 use Rattle.meaning.specs.States.{grow}
 use Rattle.meaning.specs.Files.{statesFor}
-use Rattle.states.specs.Packed.{padded, Holds, packed}
+use Rattle.states.specs.Packed.{paddedStates, Holds, packed}
 use Rattle.states.specs.declared.Count.the-variants.{Known, TooMany}
 use Rattle.states.specs.declared.States.{States}
 use Rattle.states.proofs.Packed.{zeros, take-padded, holds-again, packed-many, known-is, many-is}
@@ -18,7 +18,7 @@ use Rattle.states.proofs.Growing.{Underway, underway, grow-longer, at-r
 -- the sets found so far are in the first n places of an array
 pub record Turning (st : ℕ → List ℕ → ℕ) (symbols : List Sym) (states known : List ℕ) (n : ℕ) : Type 0 where
   pub found : List ℕ
-  pub held : known ≡ padded found
+  pub held : known ≡ paddedStates found
   pub size : n ≡ length found
   pub few : n ≤ mostStates
   pub leads : Underway st symbols states found

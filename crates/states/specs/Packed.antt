@@ -5,6 +5,7 @@ use mathlib.Core.Bool.{cond}
 use mathlib.Core.List.{List, [], _∷_, _++_, map}
 use lib.Dec.{leb}
 use lib.ListN.{length, take, drop, replicate}
+use Rattle.meaning.specs.Lists.{padded}
 use Rattle.meaning.specs.Limits.{mostStates}
 use Rattle.meaning.specs.States.{indexOf}
 use Rattle.states.specs.declared.Count.{Count}
@@ -20,29 +21,29 @@ placeFor s (x ∷ xs) = cond (leb s x) 0 (suc (placeFor s xs))
 unfoldable pub putAt : List ℕ → ℕ → ℕ → ℕ → List ℕ
 putAt l i n s = take i l ++ (s ∷ (take (n - i) (drop i l) ++ drop (suc n) l))
 
--- the numbers with zeros behind them
-unfoldable pub padded : List ℕ → List ℕ
-padded l = l ++ replicate (mostStates - length l) 0
+-- the numbers in 16 places, with zeros behind them
+unfoldable pub paddedStates : List ℕ → List ℕ
+paddedStates l = padded mostStates l
 
 -- an array whose first n places are followed by zeros
 pub record Holds (sets : List ℕ) (n : ℕ) : Type 0 where
   pub few : n ≤ mostStates
-  pub padding : sets ≡ padded (take n sets)
+  pub padding : sets ≡ paddedStates (take n sets)
 
 -- at most 16 numbers, or that there are more
-abbrev pub tooMany : States
-tooMany = record { count = TooMany; sets = replicate mostStates 0 }
+abbrev pub overfull : States
+overfull = record { count = TooMany; sets = replicate mostStates 0 }
 
 unfoldable pub packed : List ℕ → States
-packed l = cond (leb (length l) mostStates) (record { count = Known (length l); sets = padded l }) tooMany
+packed l = cond (leb (length l) mostStates) (record { count = Known (length l); sets = paddedStates l }) overfull
 
 -- how many numbers there are, 0 where there are too many
-abbrev counted : Count → ℕ
-counted (Known n) = n
-counted TooMany = 0
+abbrev countKnown : Count → ℕ
+countKnown (Known n) = n
+countKnown TooMany = 0
 
 abbrev pub countOf : States → ℕ
-countOf r = counted (r .count)
+countOf r = countKnown (r .count)
 
 -- the numbers of some sets among the states
 unfoldable pub indices : List ℕ → List ℕ → List ℕ

@@ -6,12 +6,12 @@ ghost use lib.ListN.{length, take, drop};
 ghost use Rattle.meaning.specs.Limits.{mostStates};
 ghost use Rattle.meaning.specs.Types.{step, signature};
 ghost use Rattle.meaning.specs.Cells.{cells};
-ghost use Rattle.meaning.specs.States.{insert, insertAll, indexOf, grow, tables};
+ghost use Rattle.meaning.specs.States.{insertRising, insertAll, indexOf, grow, tables};
 ghost use Rattle.meaning.specs.Files.{statesFor};
 ghost use Rattle.fields.specs.Found.{contentsFrom};
 ghost use Rattle.automaton.specs.Marking.{AreProductions};
 ghost use Rattle.states.specs.Asked.{Limited, productionsAt};
-ghost use Rattle.states.specs.Packed.{placeFor, putAt, Holds, packed, tooMany, countOf, indices};
+ghost use Rattle.states.specs.Packed.{placeFor, putAt, Holds, packed, overfull, countOf, indices};
 
 // The most states.
 const MOST: usize = 16;
@@ -76,7 +76,7 @@ fn shift(sets: [u16; MOST], i: usize, n: usize, s: u16) -> [u16; MOST]
 
 // What is answered if there are more than 16.
 fn too_many() -> States
-    ensures { λ r. ⌜ r ≡ tooMany ⌝ }
+    ensures { λ r. ⌜ r ≡ overfull ⌝ }
 {
     States {
         count: Count::TooMany,
@@ -87,7 +87,7 @@ fn too_many() -> States
 // s put into the first n, once; they rise.
 fn put(sets: [u16; MOST], n: usize, s: u16) -> States
     requires { ⌜ Holds sets n ⌝ }
-    ensures { λ r. ⌜ r ≡ packed (insert s (take n sets)) ⌝ }
+    ensures { λ r. ⌜ r ≡ packed (insertRising s (take n sets)) ⌝ }
 {
     let known = sets;
     let i = place(&known[..n], s);

@@ -4,5 +4,5 @@ use mathlib.Core.List.{List}
 use lib.ListN.{set}
 
 -- a path with three digits at place 5
-abbrev pub numbered : List ℕ → ℕ → List ℕ
-numbered path k = set (set (set path 5 (48 + k / 100)) 6 (48 + k / 10 % 10)) 7 (48 + k % 10)
+abbrev pub numberedPath : List ℕ → ℕ → List ℕ
+numberedPath path k = set (set (set path 5 (48 + k / 100)) 6 (48 + k / 10 % 10)) 7 (48 + k % 10)

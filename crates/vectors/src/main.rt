@@ -17,7 +17,7 @@ ghost use Rattle.lines.specs.Lines.{refusedLine};
 ghost use Rattle.lines.specs.Listing.{listing, Results};
 ghost use Rattle.analysis.specs.Given.{Filled};
 ghost use Rattle.vectors.specs.Expected.{standsAt, IsSheet};
-ghost use Rattle.vectors.specs.Paths.{numbered};
+ghost use Rattle.vectors.specs.Paths.{numberedPath};
 
 // What of a file is compared with what stands beside it.
 pub enum Way {
@@ -342,7 +342,7 @@ fn play_file(rules: &[u8], beside: &[u8], way: Way) -> Outcome {
 // The path of file k, by its three digits, which stand after a folder of four letters.
 fn put_number(path: &mut [u8], k: usize)
     requires { ⌜ (8 ≤ length (now path)) × (k < 1000) ⌝ }
-    ensures { λ _. ⌜ now (path .exit) ≡ numbered (now (path .entry)) k ⌝ }
+    ensures { λ _. ⌜ now (path .exit) ≡ numberedPath (now (path .entry)) k ⌝ }
 {
     path[5] = (48 + k / 100) as u8;
     path[6] = (48 + k / 10 % 10) as u8;

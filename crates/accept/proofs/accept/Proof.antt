@@ -24,7 +24,7 @@ not-read c =
 is-read : (c : tie.Else1) → readAnswer (c .before .before .before .before .before .before .args .file .now) ≡ accepted
 is-read c =
     let same = ap (λ (a : Answer). a .number) (c .before .before .answer-of .ensures) in
-    sym (c .before .before .before .before .read .ensures .0) ∙ accepts (c .before .before .before .before .read .result .verdict) (sym same ∙ omega arith)
+    sym (c .before .before .before .before .read .ensures .0) ∙ accepts (c .before .before .before .before .read .result .refusal) (sym same ∙ omega arith)
 
 read-requires : tie.Need-read-requires
 read-requires c κs = search needs

@@ -1,6 +1,6 @@
 -- `accept::answer_of` meets its contract, case by case. Assumes nothing.
 use mathlib.Core.Path.{sym, ap, _∙_}
-use Rattle.refusals.specs.Verdict.{answerOf}
+use Rattle.refusals.specs.Refusal.{answerOf}
 use borrow.Author.Needs.{needs}
 use Rattle.accept.proofs.answer_of.Statement.{statement}
 use Rattle.accept.proofs.answer_of.Tie as tie

@@ -6,13 +6,13 @@ use native.Mathlib.Omega.{arith}
 use lib.Dec.{ltb}
 use lib.ListN.{length, getD, drop}
 use borrow.Author.Tests.{le-ltb, lt-ltb}
-use Rattle.meaning.specs.Lists.{all}
+use Rattle.meaning.specs.Lists.{allOf}
 use Rattle.meaning.proofs.Loops.{all-end, all-fails, all-next}
 use Rattle.marking.proofs.all_below.Statement.{statement}
 use Rattle.marking.proofs.all_below.Tie as tie
 
 abbrev Inv-loop : tie.InvT-loop
-Inv-loop row m i₀ i = all (λ d. ltb d m) (drop i row) ≡ all (λ d. ltb d m) row
+Inv-loop row m i₀ i = allOf (λ d. ltb d m) (drop i row) ≡ allOf (λ d. ltb d m) row
 
 abbrev μ-loop : tie.MeasureT-loop
 μ-loop row m i₀ i = length row - i

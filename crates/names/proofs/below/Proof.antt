@@ -7,14 +7,14 @@ use native.Mathlib.Omega.{arith}
 use lib.ListN.{length, getD, drop}
 use borrow.Author.Tests.{le-ltb, lt-ltb}
 use borrow.Author.Needs.{needs}
-use Rattle.meaning.specs.Lists.{all}
+use Rattle.meaning.specs.Lists.{allOf}
 use Rattle.meaning.proofs.Loops.{all-end, all-fails, all-next}
 use Rattle.names.proofs.Bytes.{isBelow}
 use Rattle.names.proofs.below.Statement.{statement}
 use Rattle.names.proofs.below.Tie as tie
 
 abbrev Inv-loop : tie.InvT-loop
-Inv-loop s types i₀ i = all (isBelow types) (drop i s) ≡ all (isBelow types) s
+Inv-loop s types i₀ i = allOf (isBelow types) (drop i s) ≡ allOf (isBelow types) s
 
 abbrev μ-loop : tie.MeasureT-loop
 μ-loop s types i₀ i = length s - i

@@ -7,7 +7,7 @@ use native.Mathlib.Omega.{arith}
 use lib.ListN.{length, getD, drop}
 use borrow.Author.Tests.{not-true, not-false}
 use borrow.Author.Needs.{needs}
-use Rattle.meaning.specs.Lists.{all}
+use Rattle.meaning.specs.Lists.{allOf}
 use Rattle.meaning.specs.Contents.{nameByte}
 use Rattle.meaning.proofs.Loops.{all-end, all-fails, all-next}
 use Rattle.names.proofs.Contents.{name-short, name-long, name-all}
@@ -15,7 +15,7 @@ use Rattle.names.proofs.is_name.Statement.{statement}
 use Rattle.names.proofs.is_name.Tie as tie
 
 abbrev Inv-loop : tie.InvT-loop
-Inv-loop s i₀ i = all nameByte (drop i s) ≡ all nameByte s
+Inv-loop s i₀ i = allOf nameByte (drop i s) ≡ allOf nameByte s
 
 abbrev μ-loop : tie.MeasureT-loop
 μ-loop s i₀ i = length s - i

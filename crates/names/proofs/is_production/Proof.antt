@@ -4,7 +4,7 @@ use mathlib.Core.Path.{sym, ap, _∙_}
 use native.Mathlib.Omega.{arith}
 use lib.ListN.{getD}
 use borrow.Author.Needs.{needs}
-use Rattle.meaning.specs.Lists.{all}
+use Rattle.meaning.specs.Lists.{allOf}
 use Rattle.meaning.proofs.Loops.{part-rest}
 use Rattle.names.proofs.Bytes.{isBelow}
 use Rattle.names.proofs.Contents.{production-short, production-target, production-symbol, production-arity, production-arguments}
@@ -67,7 +67,7 @@ returns-5 : tie.Need-returns-5
 returns-5 c =
     let a = c .before .before .before .before .before .before .before .before .before .before .before .args in
     c .below .ensures
-    ∙ ap (all (isBelow (a .types))) (part-rest 2 (a .s .now))
+    ∙ ap (allOf (isBelow (a .types))) (part-rest 2 (a .s .now))
     ∙ sym (production-arguments (a .types) (a .arities .now) (a .s .now) (omega arith) (omega arith) (omega arith) (omega arith))
 
 pub is-production-spec : {M : Type 1} → statement M

@@ -5,10 +5,10 @@ use mathlib.Core.List.{[], _∷_, _++_}
 use native.Mathlib.Omega.{arith}
 use lib.Dec.{lit<}
 use lib.ListN.{length, getD}
+use Rattle.meaning.specs.Lists.{padded}
 use Rattle.meaning.specs.Limits.{symbol, predicate}
 use Rattle.meaning.specs.Fields.{whole, contentsOf}
 use Rattle.meaning.specs.Refusals.{aritiesIn}
-use Rattle.refusals.specs.Known.{padded}
 use Rattle.refusals.proofs.Knowing.{count-of}
 use Rattle.rules.proofs.Keeping.{arities-more, arities-kept, knows-more, room-symbol, room-predicate, room-byte}
 use borrow.Author.Needs.{needs}

@@ -8,7 +8,7 @@ use lib.ListN.{length, take, drop}
 use borrow.Author.Needs.{needs}
 use Rattle.meaning.specs.States.{insertAll}
 use Rattle.meaning.specs.Limits.{mostStates}
-use Rattle.states.specs.Packed.{padded, packed}
+use Rattle.states.specs.Packed.{paddedStates, packed}
 use Rattle.states.proofs.Putting.{answer-packed, put-next-one, put-over}
 use Rattle.states.proofs.Packed.{length-held, holds-again, known-is}
 use Rattle.states.proofs.put_all.Statement.{statement}
@@ -19,7 +19,7 @@ Inv-loop n new known₀ count₀ i₀ known count i =
     (i ≤ length new)
     × (count ≡ length (insertAll (drop i new) (take n known₀)))
     × (count ≤ mostStates)
-    × (known ≡ padded (insertAll (drop i new) (take n known₀)))
+    × (known ≡ paddedStates (insertAll (drop i new) (take n known₀)))
 
 abbrev μ-loop : tie.MeasureT-loop
 μ-loop n new known₀ count₀ i₀ known count i = i
@@ -85,7 +85,7 @@ returns-2 c =
     answer-packed (loop .count) (loop .known) (insertAll (drop 0 (a .new .now)) l)
     (subst (λ (i : ℕ). loop .count ≡ length (insertAll (drop i (a .new .now)) l)) none (loop .inv .1))
     (loop .inv .2)
-    (subst (λ (i : ℕ). loop .known ≡ padded (insertAll (drop i (a .new .now)) l)) none (loop .inv .3))
+    (subst (λ (i : ℕ). loop .known ≡ paddedStates (insertAll (drop i (a .new .now)) l)) none (loop .inv .3))
 
 pub put-all-spec : {M : Type 1} → statement M
 put-all-spec =
