@@ -10,13 +10,13 @@ use lib.ListN.{length}
 use Rattle.meaning.specs.Cells.{cells}
 use Rattle.meaning.specs.Refusals as meant
 use Rattle.meaning.specs.Files.{fileAnswer}
-use Rattle.meaning.specs.Calls.{statesOf, tablesOf, modelOf, verdictsOf, Buffers, longEnough, analysisAnswer, analysed}
+use Rattle.meaning.specs.Calls.{statesOf, tablesOf, modelOf, verdictsOf, Buffers, longEnough, analysisAnswer, analysed, analysisDone}
 use Rattle.meaning.proofs.Lists.{both}
 use Rattle.meaning.proofs.Answers.{then-first, then-next}
 use Rattle.meaning.proofs.Calls.{analysis-refused, analysis-filled}
 use Rattle.accept.specs.declared.Answer.{Answer}
 use Rattle.accept.specs.Accepted.{answered}
-use Rattle.analysis.specs.Given.{given, noCounts, analysisDone}
+use Rattle.analysis.specs.Given.{given, noCounts}
 
 module _ (file : List ℕ) (before : Buffers) where
   -- a refusal, with all buffers untouched

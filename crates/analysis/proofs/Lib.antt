@@ -1,3 +1,3 @@
 pub mod Ends
-pub mod Theorems
+pub mod Done
 pub mod Shown

@@ -18,17 +18,6 @@ given r after = record { answer = answered (r .answer); states = r .states; atom
 abbrev pub noCounts : Answer → Analysis
 noCounts answer = record { answer = answer; states = 0; atoms = 0; rounds = 0 }
 
--- an analysis that hands back 0
-abbrev pub analysisDone : List ℕ → Buffers → Analysed
-analysisDone file before =
-    record {
-      answer = accepted;
-      states = length (statesOf file);
-      atoms = length (atomsOf file);
-      rounds = roundsOf file;
-      after = filled file before;
-    }
-
 -- buffers that an analysis of an accepted file has filled, with m states
 pub record Filled (file : List ℕ) (m : ℕ) (states marks verdicts : List ℕ) : Type 0 where
   pub answer : fileAnswer file ≡ accepted

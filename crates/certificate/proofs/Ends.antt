@@ -10,7 +10,7 @@ use lib.ListN.{length}
 use Rattle.meaning.specs.Refusals as meant
 use Rattle.meaning.specs.Files.{fileAnswer}
 use Rattle.meaning.specs.Certificates.{encodeSheet}
-use Rattle.meaning.specs.Calls.{statesOf, roundsOf, atomsOf, written, holds, counted, Buffers, longEnough, Analysed, OrderOf, analysisAnswer, analysed, writingAnswer, writtenIn}
+use Rattle.meaning.specs.Calls.{statesOf, roundsOf, atomsOf, written, holds, counted, Buffers, longEnough, Analysed, OrderOf, analysisAnswer, analysed, writingAnswer, writtenIn, WrittenInOrder}
 use Rattle.meaning.proofs.Lists.{cond-yes, cond-no, not-intro, not-not-intro}
 use Rattle.meaning.proofs.Answers.{then-first, then-next, if-yes, if-no}
 use Rattle.meaning.proofs.Calls.{analysis-zero, writing-refused}
@@ -19,9 +19,9 @@ use Rattle.accept.specs.Accepted.{answered}
 use Rattle.analysis.specs.declared.Analysis.{Analysis}
 use Rattle.analysis.specs.Given.{given, noCounts}
 use Rattle.analysis.proofs.Ends as analysis
-use Rattle.analysis.proofs.Theorems.{count-of-states, count-of-atoms, count-of-rounds}
+use Rattle.analysis.proofs.Done.{count-of-states, count-of-atoms, count-of-rounds}
 use Rattle.certificate.specs.declared.Writing.{Writing}
-use Rattle.certificate.specs.Given.{wrote, nothingWritten, ifRoom, WrittenInOrder}
+use Rattle.certificate.specs.Given.{wrote, nothingWritten, ifRoom}
 use Rattle.certificate.proofs.Sheets.{has-room, lacks-room, room-written, room-kept}
 
 -- the sheet of a file, with the atoms in the order of their cells

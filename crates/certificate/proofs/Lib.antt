@@ -1,4 +1,3 @@
 pub mod Ends
 pub mod Ready
 pub mod Sheets
-pub mod Theorems

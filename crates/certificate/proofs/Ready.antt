@@ -14,7 +14,7 @@ use Rattle.results.proofs.Fronts.{holds-room, holds-first}
 use Rattle.results.proofs.Handed.{few-predicates, narrow-predicates}
 use Rattle.analysis.specs.declared.Analysis.{Analysis}
 use Rattle.analysis.specs.Given.{given, Filled}
-use Rattle.analysis.proofs.Theorems.{accepted-is, holds-states, holds-marks, holds-verdicts}
+use Rattle.analysis.proofs.Done.{accepted-is, holds-states, holds-marks, holds-verdicts}
 use Rattle.analysis.proofs.Shown.{shown-few, preds-fit, preds-few, preds-narrow, marks-size}
 use Rattle.certificate.specs.Given.{sheetOf, ifRoom}
 use Rattle.certificate.proofs.Ends.{sheetFor}

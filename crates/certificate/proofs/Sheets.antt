@@ -8,14 +8,14 @@ use native.Mathlib.Omega.{arith}
 use lib.Dec.{T, leb→le, le→leb}
 use lib.ListN.{length, getD, drop, length-append}
 use lib.Seq.{take-length}
-use Rattle.meaning.specs.Lists.{All}
+use Rattle.meaning.specs.Lists.{All, nonzero}
 use Rattle.meaning.specs.Limits.{atomTag}
 use Rattle.meaning.specs.Fields.{encodeField}
 use Rattle.meaning.specs.Cells.{cells}
 use Rattle.meaning.specs.Certificates.{encodeSheet, markedAtoms, IsSheetAtom}
 use Rattle.meaning.specs.Calls.{written, holds}
 use Rattle.meaning.proofs.Lists.{All-map, All-getD, cond-yes, cond-no, not-intro}
-use Rattle.meaning.proofs.MarkedAtoms.{nonzero, marked-atoms-form, marked-count}
+use Rattle.meaning.proofs.MarkedAtoms.{marked-atoms-form, marked-count}
 use Rattle.cells.proofs.Segments.{start-all, start-most}
 use Rattle.segments.proofs.Counts.{counted-le}
 use Rattle.text.specs.Pasted.{pasted, Put}

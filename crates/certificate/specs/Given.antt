@@ -34,10 +34,3 @@ sheetOf states preds marks = encodeSheet states (markedAtoms (length states) pre
 -- a buffer with needed bytes written if there is room for them, else untouched
 abbrev pub ifRoom : List ℕ → List ℕ → List ℕ
 ifRoom needed before = cond (holds before needed) (written needed before) before
-
--- All that a call has written, but for the one answer left free (01: "the order of the atoms is open"): the atoms of the model stand in some
--- order, each once and no other.
-pub record WrittenInOrder (file : List ℕ) (before : Buffers) (sheet : List ℕ) (result : Written) : Type 0 where
-  pub order : List (List ℕ)
-  pub each : OrderOf file order
-  pub is : result ≡ writtenIn order file before sheet

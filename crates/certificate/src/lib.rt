@@ -8,10 +8,10 @@ ghost use Rattle.meaning.specs.Lists.{All};
 ghost use Rattle.meaning.specs.Cells.{cells};
 ghost use Rattle.meaning.specs.Refusals.{accepted};
 ghost use Rattle.meaning.specs.Files.{fileAnswer};
-ghost use Rattle.meaning.specs.Calls.{statesOf, checked};
+ghost use Rattle.meaning.specs.Calls.{statesOf, checked, WrittenInOrder};
 ghost use Rattle.refusals.specs.Known.{Knows, fieldsRead};
 ghost use Rattle.checking.specs.Given.{gave};
-ghost use Rattle.certificate.specs.Given.{wrote, nothingWritten, sheetOf, ifRoom, WrittenInOrder};
+ghost use Rattle.certificate.specs.Given.{wrote, nothingWritten, sheetOf, ifRoom};
 
 // Number and place, and the counts of states, atoms, rounds and the sheet's bytes: each 0 with a refusal.
 pub struct Writing {

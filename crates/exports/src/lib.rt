@@ -1,7 +1,6 @@
 // The three public calls for C and Rust: functions on numbers and slices. Each answers the number; the place and the counts come through references.
 ghost use mathlib.Core.Path.{_≡_};
-ghost use Rattle.meaning.specs.Calls.{analysed, checked};
-ghost use Rattle.certificate.specs.Given.{WrittenInOrder};
+ghost use Rattle.meaning.specs.Calls.{analysed, checked, WrittenInOrder};
 ghost use Rattle.exports.specs.Numbers.{analysis, writing, check};
 
 // Analyses a rule file: its states, tables, model and verdicts.

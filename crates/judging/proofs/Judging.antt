@@ -7,6 +7,7 @@ use mathlib.Core.Option.{Option, none, some}
 use lib.Dec.{T, eqb, eqb→eq, ltb, ltb→lt}
 use lib.ListN.{length, replicate, length-replicate}
 use Rattle.meaning.specs.Lists.{All, allOf, anyOf, anyBelow, same, lowest}
+use Rattle.meaning.specs.States.{lookUp}
 use Rattle.meaning.specs.Syntax.{Clause}
 use Rattle.meaning.specs.Limits.{atomTag}
 use Rattle.meaning.specs.Fields.{Field, whole, cut, fields, contentsOf, firstField}
@@ -26,7 +27,6 @@ use Rattle.refusals.specs.Tests.{earlierIn}
 use Rattle.accept.specs.declared.Answer.{Answer}
 use Rattle.accept.specs.Accepted.{answered}
 use Rattle.rules.proofs.Limits.{predicates-known}
-use Rattle.stages.specs.Tables.{lookUp}
 use Rattle.stages.specs.Search.{clausesIn}
 use Rattle.results.specs.Handed.{Handed}
 use Rattle.results.proofs.Handing.{few-states, few-preds, narrow-preds, handed-violations}

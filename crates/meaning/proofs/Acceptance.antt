@@ -1,28 +1,32 @@
 -- A file is accepted exactly if it is the encoding of legal rules with at most 16 states, and then it says those rules. Assumes nothing.
 use Prim.Native.Nat.{ℕ, _≤_, _<_}
 use mathlib.Core.Path.{_≡_, refl, sym, ap, ap₂, subst, subst₂, subst₃, _∙_, fun-ext}
-use mathlib.Core.Logic.{_↔_}
+use mathlib.Core.Logic.{_↔_, _≢_, inl, inr}
 use mathlib.Core.Bool.{Bool, true, false, cond, not}
 use mathlib.Core.List.{List, [], _∷_, _++_, map, map-append, append-nil, List·Memᴰ}
 use mathlib.Core.Option.{Option, none, some}
-use native.Mathlib.Nat.{le-trans, le-of-eq}
+use native.Mathlib.Nat.{le-trans, le-of-eq, not-le-of-lt}
+use native.Mathlib.Decide.{decLe}
 use native.Mathlib.Omega.{arith}
 use lib.Dec.{T, eqb, lit≤}
 use lib.ListN.{length, getD, take, drop, length-map}
 use Rattle.meaning.specs.Lists.{All, joined}
-use Rattle.meaning.specs.Syntax.{Named, Clause, Query, Rules}
+use Rattle.meaning.specs.Syntax.{Named, Production, Clause, Query, Rules}
 use Rattle.meaning.specs.Limits.{Kind, symbol, type, production, predicate, clause, query, tagOf, mostOf, mostSymbolArity, mostPredicateArity, mostFileBytes, mostContent, mostStates, firstVariable}
 use Rattle.meaning.specs.Fields.{Bytes, Field, whole, cut, fields, contentsOf, encodeField}
 use Rattle.meaning.specs.Contents.{isSome, isName, isNamed, isProduction, readClause, readQuery}
 use Rattle.meaning.specs.Encoding.{encodeNamed, encodeProduction, encodeClause, encodeQuery, contentsFor, encodeKind, kinds, encodeRules}
 use Rattle.meaning.specs.Legal.{arities, names, WellProduction, WellClause, WellQuery, NoneTwice, Legal}
-use Rattle.meaning.specs.Refusals.{namesIn, isRefused, accepted, contents, firstByte, aritiesIn, typesIn, laidOutAfter, isCut, firstRefused}
+use Rattle.meaning.specs.Refusals.{namesIn, isRefused, refused, accepted, contents, firstByte, aritiesIn, typesIn, laidOutAfter, isCut, firstRefused}
+use Rattle.meaning.specs.States.{MoreStates}
 use Rattle.meaning.specs.Files.{readAll, named, productionOf, rulesIn, rulesOf, statesFor, fileAnswer}
+use Rattle.meaning.specs.Given.{NoneFits, NoneRefused, HasConstant, Given, Accepted, Acceptable}
 use Rattle.meaning.proofs.Lists.{joined-append, All-map}
 use Rattle.meaning.proofs.Contents.{isSome-give, cons-same, conditionTypes, isNamed-exact, isProduction-exact, readClause-back, readClause-exact, readQuery-back, readQuery-exact}
-use Rattle.meaning.proofs.Fields.{NoField, firstField-none, fields-nil, fields-joined, fields-whole, encodeWhole, contentsOf-append}
+use Rattle.meaning.proofs.Fields.{NoField, firstField-none, fields-nil, fields-joined, fields-length, fields-whole, encodeWhole, contentsOf-append}
 use Rattle.meaning.proofs.ByKind.{tag-range, TagsRise, rising-weaken, rising-map, rising-byTag, none-twice-one, WellFields, well-fine, fine-well}
-use Rattle.meaning.proofs.Answers.{Fine, none-refused, accepted-exact}
+use Rattle.meaning.proofs.States.{more-states}
+use Rattle.meaning.proofs.Answers.{none-refused, accepted-exact, refused-exact, symbolsOf, statesOfFile, GivenByCount}
 
 -- The fields of rules
 abbrev kindFields : Rules → Kind → List Field
@@ -297,7 +301,7 @@ module _ (r : Rules) (h : Legal r) where
       }
 
 -- no field is refused, by places and one after the other
-none-refused-fields : (fs : List Field) → ((k : ℕ) → k < length fs → Fine (take k fs) (getD fs k cut)) ↔ NoField isRefused [] fs
+none-refused-fields : (fs : List Field) → ((k : ℕ) → k < length fs → NoneFits (take k fs) (getD fs k cut)) ↔ NoField isRefused [] fs
 unfolding firstRefused
 none-refused-fields fs = (
   λ h. firstField-none isRefused fs .0 (none-refused fs .1 h),
@@ -310,21 +314,32 @@ rising-whole t top [] h = tt
 rising-whole t top (cut ∷ fs) h = absurd h
 rising-whole t top (whole g c ∷ fs) h = (tt, rising-whole g top fs (h .2))
 
--- An accepted file is the encoding of the legal rules that it says.
-pub accepted-legal : (file : List ℕ) → Bytes file → fileAnswer file ≡ accepted
-    → Legal (rulesOf file)
-    × (file ≡ encodeRules (rulesOf file))
-    × (length (statesFor (arities (rulesOf file .symbols)) (length (rulesOf file .types)) (rulesOf file .productions)) ≤ mostStates)
+-- The rules of a file are legal if no field is refused and one is a constant's.
+pub read-legal : (file : List ℕ) → NoneRefused file → HasConstant file → Legal (rulesOf file)
 unfolding rulesOf
-accepted-legal file bytes e =
-    let a = accepted-exact file .0 e in
-    let w = fine-well (fields file) (none-refused-fields (fields file) .0 (a .0 .fine)) in
-    let same =
+read-legal file r constant =
+    let w = fine-well (fields file) (none-refused-fields (fields file) .0 (r .fine)) in
+    let size =
+    fields-length file (rising-whole 1 7 (fields file) (w .rising))
+    ∙ ap (λ (fs : List Field). length (joined (map encodeWhole fs))) (rising-fields (rulesIn (fields file)) (fields file) (w .rising) (contents-rules (fields file) w))
+    ∙ ap length (encode-fields (rulesIn (fields file)))
+    in
+    rules-legal (fields file) w (subst (λ (n : ℕ). n ≤ mostFileBytes) size (r .size)) constant
+
+-- Such a file, if it is bytes, is the encoding of its rules.
+pub read-encoded : (file : List ℕ) → Bytes file → NoneRefused file → file ≡ encodeRules (rulesOf file)
+unfolding rulesOf
+read-encoded file bytes r =
+    let w = fine-well (fields file) (none-refused-fields (fields file) .0 (r .fine)) in
     fields-whole file bytes (rising-whole 1 7 (fields file) (w .rising))
     ∙ ap (λ (fs : List Field). joined (map encodeWhole fs)) (rising-fields (rulesIn (fields file)) (fields file) (w .rising) (contents-rules (fields file) w))
     ∙ encode-fields (rulesIn (fields file))
-    in
-    (rules-legal (fields file) w (subst (λ (l : List ℕ). length l ≤ mostFileBytes) same (a .0 .size)) (a .1), same, a .2)
+
+-- The rules of an accepted file are legal, and have at most 16 states.
+pub accepted-rules : (file : List ℕ) → fileAnswer file ≡ accepted
+    → Legal (rulesOf file)
+    × (length (statesFor (arities (rulesOf file .symbols)) (length (rulesOf file .types)) (rulesOf file .productions)) ≤ mostStates)
+accepted-rules file e = let a = accepted-exact file .0 e in (read-legal file (a .0) (a .1), a .2)
 
 -- The encoding of legal rules with at most 16 states is accepted, and says those rules.
 pub legal-accepted : (r : Rules) → Legal r → length (statesFor (arities (r .symbols)) (length (r .types)) (r .productions)) ≤ mostStates
@@ -347,9 +362,61 @@ pub acceptance-exact : (file : List ℕ) → Bytes file → (r : Rules)
     → ((fileAnswer file ≡ accepted) × (rulesOf file ≡ r))
     ↔ ((file ≡ encodeRules r) × Legal r × (length (statesFor (arities (r .symbols)) (length (r .types)) (r .productions)) ≤ mostStates))
 acceptance-exact file bytes r = (
-  λ h. let w = accepted-legal file bytes (h .0) in subst Says (h .1) (w .1, w .0, w .2),
+  λ h. let w = accepted-rules file (h .0) in subst Says (h .1) (read-encoded file bytes (accepted-exact file .0 (h .0) .0), w .0, w .1),
   λ h. subst (λ (l : List ℕ). (fileAnswer l ≡ accepted) × (rulesOf l ≡ r)) (sym (h .0)) (legal-accepted r (h .1) (h .2)),
 )
   where
     Says : Rules → Type 0
     Says s = (file ≡ encodeRules s) × Legal s × (length (statesFor (arities (s .symbols)) (length (s .types)) (s .productions)) ≤ mostStates)
+
+-- The targets of the productions of legal rules are declared.
+pub legal-targets : (r : Rules) → Legal r → All (λ (p : Production). p .target < length (r .types)) (r .productions)
+legal-targets r h = All-map (r .productions) (λ p w. w .0) (h .productions)
+
+-- The computed states are at most 16 exactly if no more exist.
+few-exact : (r : Rules) → Legal r
+    → (length (statesFor (arities (r .symbols)) (length (r .types)) (r .productions)) ≤ mostStates) ↔ (¬ MoreStates (arities (r .symbols)) (r .productions))
+few-exact r h = (
+  λ few w. not-le-of-lt (exact .1 w) few,
+  λ fewer. go fewer (decLe (length states) mostStates),
+)
+  where
+    states : List ℕ
+    states = statesFor (arities (r .symbols)) (length (r .types)) (r .productions)
+
+    exact : (mostStates < length states) ↔ MoreStates (arities (r .symbols)) (r .productions)
+    exact = more-states (arities (r .symbols)) (length (r .types)) (r .productions) (legal-targets r h)
+
+    go : ¬ MoreStates (arities (r .symbols)) (r .productions) → Dec (length states ≤ mostStates) → length states ≤ mostStates
+    go fewer (yes le) = le
+    go fewer (no more) = absurd (fewer (exact .0 (omega arith)))
+
+-- Accepted exactly if none of 1 to 8 fits; refused with the first that fits, at the lowest place where it fits.
+pub acceptance-given : (file : List ℕ) → (fileAnswer file ≡ accepted) ↔ Accepted file
+acceptance-given file = (
+  λ e. let a = accepted-exact file .0 e in (a .0, a .1, few-exact (rulesOf file) (read-legal file (a .0) (a .1)) .0 (a .2)),
+  λ w. accepted-exact file .1 (w .0, w .1, few-exact (rulesOf file) (read-legal file (w .0) (w .1)) .1 (w .2)),
+)
+
+pub refusal-given : (file : List ℕ) (n k : ℕ) → n ≢ 0 → (fileAnswer file ≡ refused n k) ↔ Given file n k
+refusal-given file n k pos = (λ e. to (refused-exact file n k pos .0 e), λ w. refused-exact file n k pos .1 (back w))
+  where
+    more : NoneRefused file → HasConstant file → (mostStates < length (statesOfFile file)) ↔ MoreStates (symbolsOf file) (rulesOf file .productions)
+    more r c = more-states (symbolsOf file) (length (rulesOf file .types)) (rulesOf file .productions) (legal-targets (rulesOf file) (read-legal file r c))
+
+    to : GivenByCount file n k → Given file n k
+    to (inl w) = inl w
+    to (inr w) = inr (w .0, w .1, w .2, w .3, more (w .0) (w .3) .0 (w .4))
+
+    back : Given file n k → GivenByCount file n k
+    back (inl w) = inl w
+    back (inr w) = inr (w .0, w .1, w .2, w .3, more (w .0) (w .3) .1 (w .4))
+
+-- Laid out and within the limits is what an accepted file of bytes is.
+pub acceptable-exact : (file : List ℕ) → Bytes file → (fileAnswer file ≡ accepted) ↔ Acceptable file
+acceptable-exact file bytes = (
+  λ e.
+      let a = acceptance-given file .0 e in
+      record { rules = rulesOf file; bytes = read-encoded file bytes (a .0); legal = read-legal file (a .0) (a .1); few = a .2 },
+  λ w. subst (λ (l : List ℕ). fileAnswer l ≡ accepted) (sym (w .bytes)) (legal-accepted (w .rules) (w .legal) (few-exact (w .rules) (w .legal) .1 (w .few)) .0),
+)

@@ -16,33 +16,8 @@ use Rattle.meaning.specs.Fields.{Field, cut, fields, firstField}
 use Rattle.meaning.specs.Refusals.{Answer, refused, accepted, ok, andThen, refuseIf, isRefused, isCut, wrongTag, tooMany, malformed, nameTaken, refusal, firstRefused, noConstant}
 use Rattle.meaning.specs.Legal.{arities}
 use Rattle.meaning.specs.Files.{rulesOf, statesFor, answerAt, readAnswer, fileAnswer}
-use Rattle.meaning.proofs.Lists.{clash, not-not, not-not-intro, not-intro, decide, any-find, any-give, Lowest, lowest-law, lowest-is, lowest-none, cond-yes, cond-no}
-
--- n is the number of the first of five tests that passes: 2, 3, 6, 4, 5
-abbrev pub FirstOf : Bool → Bool → Bool → Bool → Bool → ℕ → Type 0
-FirstOf two three six four five n =
-    ((n ≡ 2) × T two)
-    ⊎ (((n ≡ 3) × T (not two) × T three)
-    ⊎ (((n ≡ 6) × T (not two) × T (not three) × T six)
-    ⊎ (((n ≡ 4) × T (not two) × T (not three) × T (not six) × T four)
-    ⊎ ((n ≡ 5) × T (not two) × T (not three) × T (not six) × T (not four) × T five))))
-
--- none of the five passes
-abbrev pub NoneOf : Bool → Bool → Bool → Bool → Bool → Type 0
-NoneOf two three six four five = T (not two) × T (not three) × T (not six) × T (not four) × T (not five)
-
--- a field, after the fields before it: no number fits it; the first that fits it is n
-abbrev pub Fine : List Field → Field → Type 0
-Fine before f = NoneOf (isCut f) (wrongTag before f) (tooMany before f) (malformed before f) (nameTaken before f)
-
-abbrev pub RefusedWith : List Field → Field → ℕ → Type 0
-RefusedWith before f n = FirstOf (isCut f) (wrongTag before f) (tooMany before f) (malformed before f) (nameTaken before f) n
-
--- the field at place k is the lowest that a number fits, and the first that fits it is n
-pub record FirstRefusal (fs : List Field) (n k : ℕ) : Type 0 where
-  pub inside : k < length fs
-  pub here : RefusedWith (take k fs) (getD fs k cut) n
-  pub lower : (j : ℕ) → j < k → Fine (take j fs) (getD fs j cut)
+use Rattle.meaning.specs.Given.{FirstOf, NoneOf, FirstFits, NoneFits, FirstRefusal, NoneRefused, HasConstant, GivenReading}
+use Rattle.meaning.proofs.Lists.{clash, not-not, not-not-intro, not-intro, decide, any-find, any-give, lowest-some, lowest-nowhere, lowest-is, lowest-none, cond-yes, cond-no}
 
 choose : (a b c d e : Bool) → ℕ
 choose a b c d e = cond a 2 (cond b 3 (cond c 6 (cond d 4 (cond e 5 0))))
@@ -80,40 +55,40 @@ first-range a b c d e n (inr (inr (inr (inl h)))) = let q = h .0 in omega arith
 first-range a b c d e n (inr (inr (inr (inr h)))) = let q = h .0 in omega arith
 
 -- the number of a field, by 01's order
-pub refusal-cases : (before : List Field) (f : Field) → (Fine before f × (refusal before f ≡ 0)) ⊎ RefusedWith before f (refusal before f)
+pub refusal-cases : (before : List Field) (f : Field) → (NoneFits before f × (refusal before f ≡ 0)) ⊎ FirstFits before f (refusal before f)
 unfolding refusal choose
 refusal-cases before f = choose-cases (isCut f) (wrongTag before f) (tooMany before f) (malformed before f) (nameTaken before f)
 
-pub refusal-is : (before : List Field) (f : Field) (n : ℕ) → RefusedWith before f n → refusal before f ≡ n
+pub refusal-is : (before : List Field) (f : Field) (n : ℕ) → FirstFits before f n → refusal before f ≡ n
 unfolding refusal choose
 refusal-is before f n h = choose-is (isCut f) (wrongTag before f) (tooMany before f) (malformed before f) (nameTaken before f) n h
 
-pub refusal-fine : (before : List Field) (f : Field) → Fine before f → refusal before f ≡ 0
+pub refusal-fine : (before : List Field) (f : Field) → NoneFits before f → refusal before f ≡ 0
 unfolding refusal choose
 refusal-fine before f h = choose-none (isCut f) (wrongTag before f) (tooMany before f) (malformed before f) (nameTaken before f) h
 
-pub refusal-range : (before : List Field) (f : Field) (n : ℕ) → RefusedWith before f n → (0 < n) × (n < 7)
+pub refusal-range : (before : List Field) (f : Field) (n : ℕ) → FirstFits before f n → (0 < n) × (n < 7)
 refusal-range before f n h = first-range (isCut f) (wrongTag before f) (tooMany before f) (malformed before f) (nameTaken before f) n h
 
-refusal-pos : (before : List Field) (f : Field) (n : ℕ) → RefusedWith before f n → n ≢ 0
+refusal-pos : (before : List Field) (f : Field) (n : ℕ) → FirstFits before f n → n ≢ 0
 refusal-pos before f n h = ne-of-gt (refusal-range before f n h .0)
 
-pub fine-refusal : (before : List Field) (f : Field) → refusal before f ≡ 0 → Fine before f
+pub fine-refusal : (before : List Field) (f : Field) → refusal before f ≡ 0 → NoneFits before f
 fine-refusal before f e = ⊎-elim (λ h. h .0) (λ h. absurd (refusal-pos before f (refusal before f) h e)) (refusal-cases before f)
 
 -- the test of a refused field
 abbrev refusedIn : List Field → ℕ → Bool
 refusedIn fs k = isRefused (take k fs) (getD fs k cut)
 
-refused-number : (before : List Field) (f : Field) → T (isRefused before f) → RefusedWith before f (refusal before f)
+refused-number : (before : List Field) (f : Field) → T (isRefused before f) → FirstFits before f (refusal before f)
 refused-number before f t =
     ⊎-elim (λ h. absurd (clash (eqb (refusal before f) 0) (subst (λ (n : ℕ). T (eqb n 0)) (sym (h .1)) tt) t)) (λ h. h) (refusal-cases before f)
 
-number-refused : (before : List Field) (f : Field) (n : ℕ) → RefusedWith before f n → T (isRefused before f)
+number-refused : (before : List Field) (f : Field) (n : ℕ) → FirstFits before f n → T (isRefused before f)
 number-refused before f n h =
     not-intro (eqb (refusal before f) 0) (λ t. refusal-pos before f n h (sym (refusal-is before f n h) ∙ eqb→eq (refusal before f) 0 t))
 
-pub not-refused : (before : List Field) (f : Field) → T (not (isRefused before f)) ↔ Fine before f
+pub not-refused : (before : List Field) (f : Field) → T (not (isRefused before f)) ↔ NoneFits before f
 not-refused before f = (
   λ t. fine-refusal before f (eqb→eq (refusal before f) 0 (not-not (eqb (refusal before f) 0) t)),
   λ h. subst (λ (n : ℕ). T (not (not (eqb n 0)))) (sym (refusal-fine before f h)) tt,
@@ -122,15 +97,13 @@ not-refused before f = (
 -- the lowest field that is refused
 pub first-refused : (fs : List Field) (k : ℕ) → firstRefused fs ≡ some k → FirstRefusal fs (refusal (take k fs) (getD fs k cut)) k
 unfolding firstRefused firstField
-first-refused fs k e = go (subst (Lowest (length fs) (refusedIn fs)) e (lowest-law (length fs) (refusedIn fs)))
-  where
-    go : Lowest (length fs) (refusedIn fs) (some k) → FirstRefusal fs (refusal (take k fs) (getD fs k cut)) k
-    go w =
-        record {
-          inside = w .0;
-          here = refused-number (take k fs) (getD fs k cut) (w .1);
-          lower = λ j lt. not-refused (take j fs) (getD fs j cut) .0 (w .2 j lt);
-        }
+first-refused fs k e =
+    let w = lowest-some (length fs) (refusedIn fs) k .0 e in
+    record {
+      inside = w .inside;
+      here = refused-number (take k fs) (getD fs k cut) (w .here);
+      lower = λ j lt. not-refused (take j fs) (getD fs j cut) .0 (w .lower j lt);
+    }
 
 pub refused-first : (fs : List Field) (n k : ℕ) → FirstRefusal fs n k → firstRefused fs ≡ some k
 unfolding firstRefused firstField
@@ -143,10 +116,10 @@ refused-first fs n k w =
     (number-refused (take k fs) (getD fs k cut) n (w .here))
     (λ j lt. not-refused (take j fs) (getD fs j cut) .1 (w .lower j lt))
 
-pub none-refused : (fs : List Field) → (firstRefused fs ≡ none) ↔ ((k : ℕ) → k < length fs → Fine (take k fs) (getD fs k cut))
+pub none-refused : (fs : List Field) → (firstRefused fs ≡ none) ↔ ((k : ℕ) → k < length fs → NoneFits (take k fs) (getD fs k cut))
 unfolding firstRefused firstField
 none-refused fs = (
-  λ e k lt. not-refused (take k fs) (getD fs k cut) .0 (subst (Lowest (length fs) (refusedIn fs)) e (lowest-law (length fs) (refusedIn fs)) k lt),
+  λ e k lt. not-refused (take k fs) (getD fs k cut) .0 (lowest-nowhere (length fs) (refusedIn fs) .0 e k lt),
   λ h. lowest-none (length fs) (refusedIn fs) (λ k lt. not-refused (take k fs) (getD fs k cut) .1 (h k lt)),
 )
 
@@ -169,32 +142,20 @@ number-of e = ap (λ (a : Answer). a .number) e
 place-of : {a b : Answer} → a ≡ b → a .place ≡ b .place
 place-of e = ap (λ (a : Answer). a .place) e
 
--- it is not too long and no field is refused
-pub record Read (file : List ℕ) : Type 0 where
-  pub size : length file ≤ mostFileBytes
-  pub fine : (k : ℕ) → k < length (fields file) → Fine (take k (fields file)) (getD (fields file) k cut)
-
 abbrev pub symbolsOf : List ℕ → List ℕ
 symbolsOf file = arities (rulesOf file .symbols)
 
 abbrev pub statesOfFile : List ℕ → List ℕ
 statesOfFile file = statesFor (symbolsOf file) (length (rulesOf file .types)) (rulesOf file .productions)
 
--- the column "given when" of 01's table for 1 to 7, with its order: 1, then the first field refused, then 7
-abbrev pub GivenReading : List ℕ → ℕ → ℕ → Type 0
-GivenReading file n k =
-    ((mostFileBytes < length file) × (n ≡ 1) × (k ≡ 0))
-    ⊎ (((length file ≤ mostFileBytes) × FirstRefusal (fields file) n k)
-    ⊎ (Read file × (n ≡ 7) × (k ≡ length (fields file)) × ¬ List·Memᴰ 0 (symbolsOf file)))
-
--- and then 8
-abbrev pub Given : List ℕ → ℕ → ℕ → Type 0
-Given file n k =
+-- the same with 8 by the count of the computed states
+abbrev pub GivenByCount : List ℕ → ℕ → ℕ → Type 0
+GivenByCount file n k =
     GivenReading file n k
-    ⊎ (Read file × (n ≡ 8) × (k ≡ length (fields file)) × List·Memᴰ 0 (symbolsOf file) × (mostStates < length (statesOfFile file)))
+    ⊎ (NoneRefused file × (n ≡ 8) × (k ≡ length (fields file)) × HasConstant file × (mostStates < length (statesOfFile file)))
 
-abbrev pub Accepted : List ℕ → Type 0
-Accepted file = Read file × List·Memᴰ 0 (symbolsOf file) × (length (statesOfFile file) ≤ mostStates)
+abbrev pub AcceptedByCount : List ℕ → Type 0
+AcceptedByCount file = NoneRefused file × HasConstant file × (length (statesOfFile file) ≤ mostStates)
 
 -- 7: a symbol of arity 0
 constant : (ns : List ℕ) → T (not (noConstant ns)) ↔ List·Memᴰ 0 ns
@@ -211,7 +172,7 @@ no-constant ns = (
 
 -- Reading: the file can be read and has a constant, or one of 1 to 7 is given.
 read-cases : (file : List ℕ)
-    → (Read file × List·Memᴰ 0 (symbolsOf file) × (readAnswer file ≡ accepted))
+    → (NoneRefused file × HasConstant file × (readAnswer file ≡ accepted))
     ⊎ GivenReading file (readAnswer file .number) (readAnswer file .place)
 unfolding readAnswer rulesOf
 read-cases file = go (decide long)
@@ -223,12 +184,12 @@ read-cases file = go (decide long)
     after = answerAt (fields file) (firstRefused (fields file))
 
     Goal : Answer → Type 0
-    Goal a = (Read file × List·Memᴰ 0 (symbolsOf file) × (a ≡ accepted)) ⊎ GivenReading file (a .number) (a .place)
+    Goal a = (NoneRefused file × HasConstant file × (a ≡ accepted)) ⊎ GivenReading file (a .number) (a .place)
 
     none : Bool
     none = noConstant (symbolsOf file)
 
-    last : Read file → T none ⊎ T (not none) → Goal (refuseIf none 7 (length (fields file)))
+    last : NoneRefused file → T none ⊎ T (not none) → Goal (refuseIf none 7 (length (fields file)))
     last r (inl t) =
         let e = if-yes none 7 (length (fields file)) t in inr (inr (inr (r, number-of e, place-of e, no-constant (symbolsOf file) .0 t)))
     last r (inr t) = inl (r, constant (symbolsOf file) .0 t, if-no none 7 (length (fields file)) t)
@@ -248,7 +209,7 @@ fields-answer : (file : List ℕ) → length file ≤ mostFileBytes → readAnsw
 unfolding readAnswer
 fields-answer file le = then-next (refuseIf (ltb mostFileBytes (length file)) 1 0) _ (number-of (if-no (ltb mostFileBytes (length file)) 1 0 (le→nltb mostFileBytes (length file) le)))
 
-read-answer : (file : List ℕ) → Read file → readAnswer file ≡ refuseIf (noConstant (symbolsOf file)) 7 (length (fields file))
+read-answer : (file : List ℕ) → NoneRefused file → readAnswer file ≡ refuseIf (noConstant (symbolsOf file)) 7 (length (fields file))
 unfolding rulesOf
 read-answer file r = fields-answer file (r .size) ∙ ap (answerAt (fields file)) (none-refused (fields file) .1 (r .fine))
 
@@ -266,7 +227,7 @@ reading-answer file n k (inr (inr w)) =
     read-answer file (w .0)
     ∙ (if-yes (noConstant (symbolsOf file)) 7 (length (fields file)) (no-constant (symbolsOf file) .1 (w .3)) ∙ ap₂ refused (sym (w .1)) (sym (w .2)))
 
-readable-answer : (file : List ℕ) → Read file → List·Memᴰ 0 (symbolsOf file) → readAnswer file ≡ accepted
+readable-answer : (file : List ℕ) → NoneRefused file → HasConstant file → readAnswer file ≡ accepted
 readable-answer file r m = read-answer file r ∙ if-no (noConstant (symbolsOf file)) 7 (length (fields file)) (constant (symbolsOf file) .1 m)
 
 -- a number that is given is no 0
@@ -286,7 +247,7 @@ read-refused file n k pos = (
   reading-answer file n k,
 )
 
-pub read-accepted : (file : List ℕ) → (readAnswer file ≡ accepted) ↔ (Read file × List·Memᴰ 0 (symbolsOf file))
+pub read-accepted : (file : List ℕ) → (readAnswer file ≡ accepted) ↔ (NoneRefused file × HasConstant file)
 read-accepted file = (
   λ e.
       ⊎-elim
@@ -304,7 +265,7 @@ after-reading : (file : List ℕ) → readAnswer file ≡ accepted → fileAnswe
 unfolding fileAnswer many
 after-reading file e = then-next (readAnswer file) _ (number-of e)
 
-given-answer : (file : List ℕ) (n k : ℕ) → Given file n k → fileAnswer file ≡ refused n k
+given-answer : (file : List ℕ) (n k : ℕ) → GivenByCount file n k → fileAnswer file ≡ refused n k
 unfolding fileAnswer many
 given-answer file n k (inl w) =
     let e = reading-answer file n k w in
@@ -313,46 +274,60 @@ given-answer file n k (inr w) =
     after-reading file (readable-answer file (w .0) (w .3))
     ∙ (if-yes (many file) 8 (length (fields file)) (lt→ltb mostStates (length (statesOfFile file)) (w .4)) ∙ ap₂ refused (sym (w .1)) (sym (w .2)))
 
-accepted-answer : (file : List ℕ) → Accepted file → fileAnswer file ≡ accepted
+accepted-answer : (file : List ℕ) → AcceptedByCount file → fileAnswer file ≡ accepted
 unfolding many
 accepted-answer file w =
     after-reading file (readable-answer file (w .0) (w .1))
     ∙ if-no (many file) 8 (length (fields file)) (le→nltb mostStates (length (statesOfFile file)) (w .2))
 
 answer-cases : (file : List ℕ)
-    → (Accepted file × (fileAnswer file ≡ accepted)) ⊎ ((n : ℕ) × (k : ℕ) × Given file n k × (fileAnswer file ≡ refused n k))
+    → (AcceptedByCount file × (fileAnswer file ≡ accepted)) ⊎ ((n : ℕ) × (k : ℕ) × GivenByCount file n k × (fileAnswer file ≡ refused n k))
 unfolding many
 answer-cases file = ⊎-elim readable refusing (read-cases file)
   where
     Goal : Type 0
-    Goal = (Accepted file × (fileAnswer file ≡ accepted)) ⊎ ((n : ℕ) × (k : ℕ) × Given file n k × (fileAnswer file ≡ refused n k))
+    Goal = (AcceptedByCount file × (fileAnswer file ≡ accepted)) ⊎ ((n : ℕ) × (k : ℕ) × GivenByCount file n k × (fileAnswer file ≡ refused n k))
 
     refusing : GivenReading file (readAnswer file .number) (readAnswer file .place) → Goal
     refusing w = inr (readAnswer file .number, readAnswer file .place, inl w, given-answer file _ _ (inl w))
 
-    readable : Read file × List·Memᴰ 0 (symbolsOf file) × (readAnswer file ≡ accepted) → Goal
+    readable : NoneRefused file × HasConstant file × (readAnswer file ≡ accepted) → Goal
     readable r =
         ⊎-elim
-        (λ t. let w : Given file 8 (length (fields file)) = inr (r .0, refl, refl, r .1, ltb→lt mostStates (length (statesOfFile file)) t) in inr (8, length (fields file), w, given-answer file 8 (length (fields file)) w))
-        (λ t. let w : Accepted file = (r .0, r .1, nltb→le mostStates (length (statesOfFile file)) t) in inl (w, accepted-answer file w))
+        (λ t. let w : GivenByCount file 8 (length (fields file)) = inr (r .0, refl, refl, r .1, ltb→lt mostStates (length (statesOfFile file)) t) in inr (8, length (fields file), w, given-answer file 8 (length (fields file)) w))
+        (λ t. let w : AcceptedByCount file = (r .0, r .1, nltb→le mostStates (length (statesOfFile file)) t) in inl (w, accepted-answer file w))
         (decide (many file))
 
-given-pos : (file : List ℕ) (n k : ℕ) → Given file n k → n ≢ 0
+given-pos : (file : List ℕ) (n k : ℕ) → GivenByCount file n k → n ≢ 0
 given-pos file n k (inl w) = reading-pos file n k w
 given-pos file n k (inr w) = let q = w .1 in omega arith
 
+-- one of 1 to 8 is below 9
+pub given-range : (file : List ℕ) (n k : ℕ) → GivenByCount file n k → n < 9
+given-range file n k (inl (inl w)) = let q = w .1 in omega arith
+given-range file n k (inl (inr (inl w))) = let q = refusal-range (take k (fields file)) (getD (fields file) k cut) n (w .1 .here) in omega (arith, q)
+given-range file n k (inl (inr (inr w))) = let q = w .1 in omega arith
+given-range file n k (inr w) = let q = w .1 in omega arith
+
+pub file-number : (file : List ℕ) → fileAnswer file .number < 9
+file-number file =
+    ⊎-elim
+    (λ w. subst (λ (a : Answer). a .number < 9) (sym (w .1)) (omega arith))
+    (λ w. subst (λ (a : Answer). a .number < 9) (sym (w .3)) (given-range file (w .0) (w .1) (w .2)))
+    (answer-cases file)
+
 -- Refusals are the first that fit.
-pub refused-exact : (file : List ℕ) (n k : ℕ) → n ≢ 0 → (fileAnswer file ≡ refused n k) ↔ Given file n k
+pub refused-exact : (file : List ℕ) (n k : ℕ) → n ≢ 0 → (fileAnswer file ≡ refused n k) ↔ GivenByCount file n k
 refused-exact file n k pos = (
   λ e.
       ⊎-elim
       (λ w. absurd (pos (number-of (sym e ∙ w .1))))
-      (λ w. let same = sym (w .3) ∙ e in subst₂ (Given file) (number-of same) (place-of same) (w .2))
+      (λ w. let same = sym (w .3) ∙ e in subst₂ (GivenByCount file) (number-of same) (place-of same) (w .2))
       (answer-cases file),
   given-answer file n k,
 )
 
-pub accepted-exact : (file : List ℕ) → (fileAnswer file ≡ accepted) ↔ Accepted file
+pub accepted-exact : (file : List ℕ) → (fileAnswer file ≡ accepted) ↔ AcceptedByCount file
 accepted-exact file = (
   λ e.
       ⊎-elim

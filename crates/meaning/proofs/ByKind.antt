@@ -21,7 +21,8 @@ use Rattle.meaning.specs.Refusals.{isRefused, kindOf, testKind, contents
 use Rattle.meaning.specs.Legal.{NoneTwice}
 use Rattle.meaning.proofs.Lists.{decide, clash, not-not, not-not-intro, not-intro, neither, neither-of, any-find, any-give, any-append, All-append, All-split, mem-getD, mem-place, same-eq, eq-same, cond-yes, cond-no}
 use Rattle.meaning.proofs.Contents.{Post, post-at, post-cond, isSome-find, isSome-give}
-use Rattle.meaning.proofs.Answers.{Fine, not-refused}
+use Rattle.meaning.specs.Given.{NoneFits}
+use Rattle.meaning.proofs.Answers.{not-refused}
 use Rattle.meaning.proofs.Fields.{NoField, contentsOf-append}
 
 -- Tags and kinds
@@ -213,10 +214,10 @@ not-kind k test = (
   subst (λ (o : Option Kind). T (not (testKind o test))) (sym (tag-kind k)),
 )
 
-pub fine-kind : (before : List Field) (k : Kind) (c : List ℕ) → Fine before (whole (tagOf k) c) ↔ FineKind before k c
+pub fine-kind : (before : List Field) (k : Kind) (c : List ℕ) → NoneFits before (whole (tagOf k) c) ↔ FineKind before k c
 fine-kind before k c = (there, back)
   where
-    there : Fine before (whole (tagOf k) c) → FineKind before k c
+    there : NoneFits before (whole (tagOf k) c) → FineKind before k c
     there h =
         let m = neither (ltb mostContent (length c)) (not (laidOutAfter before k c)) (not-kind k _ .0 (h .3)) in
         record {
@@ -227,7 +228,7 @@ fine-kind before k c = (there, back)
           fresh = not-kind k _ .0 (h .4);
         }
 
-    back : FineKind before k c → Fine before (whole (tagOf k) c)
+    back : FineKind before k c → NoneFits before (whole (tagOf k) c)
     back h = (
       tt,
       neither-of (not (isSome (kindOf (tagOf k)))) (ltb (tagOf k) (lastTag before))
@@ -239,21 +240,21 @@ fine-kind before k c = (there, back)
     )
 
 -- a field that no number refuses is of some kind
-pub fine-some : (before : List Field) (g : ℕ) (c : List ℕ) → Fine before (whole g c) → (k : Kind) × (g ≡ tagOf k) × FineKind before k c
+pub fine-some : (before : List Field) (g : ℕ) (c : List ℕ) → NoneFits before (whole g c) → (k : Kind) × (g ≡ tagOf k) × FineKind before k c
 fine-some before g c h =
     let w = isSome-find (kindOf g) (not-not (isSome (kindOf g)) (neither (not (isSome (kindOf g))) (ltb g (lastTag before)) (h .1) .0)) in
     let e = post-at (λ (k : Kind). g ≡ tagOf k) (w .1) (kind-tag g) in
-    (w .0, e, fine-kind before (w .0) c .0 (subst (λ (t : ℕ). Fine before (whole t c)) e h))
+    (w .0, e, fine-kind before (w .0) c .0 (subst (λ (t : ℕ). NoneFits before (whole t c)) e h))
 
 -- whatever the kind: it is of that kind, or has no content of that kind
-fine-or-other : (before : List Field) (f : Field) (k : Kind) → Fine before f
+fine-or-other : (before : List Field) (f : Field) (k : Kind) → NoneFits before f
     → ((c : List ℕ) × (f ≡ whole (tagOf k) c) × FineKind before k c) ⊎ (contents k (f ∷ []) ≡ [])
 fine-or-other before cut k h = absurd (h .0)
 fine-or-other before (whole g c) k h =
     ⊎-elim
     (λ t.
     let e = eqb→eq g (tagOf k) t in
-    inl (c, ap (λ (u : ℕ). whole u c) e, fine-kind before k c .0 (subst (λ (u : ℕ). Fine before (whole u c)) e h)))
+    inl (c, ap (λ (u : ℕ). whole u c) e, fine-kind before k c .0 (subst (λ (u : ℕ). NoneFits before (whole u c)) e h)))
     (λ t. inr (ap (λ (cs : List (List ℕ)). cs ++ []) (cond-no (eqb g (tagOf k)) (c ∷ []) [] t)))
     (decide (eqb g (tagOf k)))
 
@@ -314,12 +315,12 @@ well-fine fs h before [] e = tt
 well-fine fs h before (f ∷ after) e =
     (not-refused before f .1 (go f (subst WellFields e h)), well-fine fs h (before ++ (f ∷ [])) after (e ∙ sym (append-snoc before f after)))
   where
-    go : (g : Field) → WellFields (before ++ g ∷ after) → Fine before g
+    go : (g : Field) → WellFields (before ++ g ∷ after) → NoneFits before g
     go cut w = absurd (rising-drop 1 7 before (cut ∷ after) (w .rising) .3)
     go (whole g c) w =
         let d = rising-drop 1 7 before (whole g c ∷ after) (w .rising) in
         let k = range-kind g (le-trans (d .1) (d .3 .0)) (d .3 .1) in
-        subst (λ (t : ℕ). Fine before (whole t c)) (sym (k .1))
+        subst (λ (t : ℕ). NoneFits before (whole t c)) (sym (k .1))
         (fine-kind before (k .0) c .1 (fine-at before after (k .0) c (subst (λ (t : ℕ). WellFields (before ++ whole t c ∷ after)) (k .1) w)))
 
 -- and back: fields each of which is fine are well formed

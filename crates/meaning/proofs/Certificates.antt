@@ -20,9 +20,9 @@ use Rattle.meaning.specs.Refusals.{Answer, refused, accepted, isCut}
 use Rattle.meaning.specs.Legal.{NoneTwice}
 use Rattle.meaning.specs.Cells.{rowOf}
 use Rattle.meaning.specs.Clauses.{AtomSet, IsValuation, termStates, InstanceIn, instanceIn, Closed}
-use Rattle.meaning.specs.Certificates.{stateBytes, encodeSheet, IsSheetAtom, LaidOut, Carries, InSheet, Valid, isAtomContent, misplaced, statesIn, differ, wrongAtom, among, violated, violatedAt, refusedAt, checkFields, sheetAnswer}
+use Rattle.meaning.specs.Certificates.{stateBytes, encodeSheet, IsSheetAtom, LaidOut, Carries, InSheet, Valid, isAtomContent, misplaced, statesIn, differ, wrongAtom, among, violated, violatedAt, refusedAt, checkFields, sheetAnswer, GivenSheet, Violation, LowestViolation}
 use Rattle.meaning.proofs.Contents.{declared-exact}
-use Rattle.meaning.proofs.Lists.{decide, trichotomy, T-of, clash, not-not, not-not-intro, not-intro, both, both-of, neither, neither-of, any-find, any-give, all-facts, facts-all, All-map, mem-getD, mem-place, anyBelow-find, anyBelow-give, Lowest, lowest-law, lowest-is, lowest-none, eq-same, same-eq, same-refl}
+use Rattle.meaning.proofs.Lists.{decide, trichotomy, T-of, clash, not-not, not-not-intro, not-intro, both, both-of, neither, neither-of, any-find, any-give, all-facts, facts-all, All-map, mem-getD, mem-place, anyBelow-find, anyBelow-give, lowest-some, lowest-nowhere, lowest-is, lowest-none, eq-same, same-eq, same-refl}
 use Rattle.meaning.proofs.Fields.{word-halves, fields-each, fields-joined, fields-nil, encodeWhole, fields-whole, FieldBytes, fields-bytes, contentsOf-append, contentsOf-same, contentsOf-other, NoneBy, NoneBy-places, NoField, NoField-append, firstField-none}
 use Rattle.meaning.proofs.Cells.{valuation-of-number, number-of-valuation}
 use Rattle.meaning.proofs.Sums.{sum}
@@ -247,7 +247,7 @@ differ-none xs ys = (alike, (λ e. subst (λ (l : List ℕ). lowest (max (length
       where
         at : (i : ℕ) → i < max (length xs) (length ys) → (i < length xs) × (i < length ys) × (getD xs i 0 ≡ getD ys i 0)
         at i lt =
-            let t = not-not (ltb i (length xs) && ltb i (length ys) && eqb (getD xs i 0) (getD ys i 0)) (subst (Lowest (max (length xs) (length ys)) (differ xs ys)) e (lowest-law (max (length xs) (length ys)) (differ xs ys)) i lt) in
+            let t = not-not (ltb i (length xs) && ltb i (length ys) && eqb (getD xs i 0) (getD ys i 0)) (lowest-nowhere (max (length xs) (length ys)) (differ xs ys) .0 e i lt) in
             let w = both (ltb i (length xs) && ltb i (length ys)) (eqb (getD xs i 0) (getD ys i 0)) t in
             let v = both (ltb i (length xs)) (ltb i (length ys)) (w .0) in
             (ltb→lt i (length xs) (v .0), ltb→lt i (length ys) (v .1), eqb→eq (getD xs i 0) (getD ys i 0) (w .1))
@@ -355,12 +355,12 @@ module _ (m : ℕ) (preds : List ℕ) where
 
 -- members by place
 module _ {A : Type 0} where
-  at-lt : (l : List A) (i : ℕ) (x : A) → getElem? l i ≡ some x → i < length l
+  pub at-lt : (l : List A) (i : ℕ) (x : A) → getElem? l i ≡ some x → i < length l
   at-lt [] i x e = absurd (Option·none-ne-some x e)
   at-lt (y ∷ l) zero x e = zero-lt-suc _
   at-lt (y ∷ l) (suc i) x e = suc-le-suc (at-lt l i x e)
 
-  at-mem : (l : List A) (i : ℕ) (x : A) → getElem? l i ≡ some x → List·Memᴰ x l
+  pub at-mem : (l : List A) (i : ℕ) (x : A) → getElem? l i ≡ some x → List·Memᴰ x l
   at-mem [] i x e = absurd (Option·none-ne-some x e)
   at-mem (y ∷ l) zero x e = List·Memᴰ·head (sym (Option·some-injective y x e))
   at-mem (y ∷ l) (suc i) x e = List·Memᴰ·tail (at-mem l i x e)
@@ -368,20 +368,6 @@ module _ {A : Type 0} where
   mem-at : (l : List A) (x : A) → List·Memᴰ x l → (i : ℕ) × (getElem? l i ≡ some x)
   mem-at l x (List·Memᴰ·head e) = (0, ap some (sym e))
   mem-at l x (List·Memᴰ·tail {xs = ys} m) = let w = mem-at ys x m in (suc (w .0), w .1)
-
--- a violation of a clause: an instance with its body in a set and its head not
-pub record Violation (m : ℕ) (interpret : ℕ → List ℕ → ℕ) (S : AtomSet) (c : Clause) : Type 0 where
-  pub valuation : List ℕ
-  pub valued : IsValuation m (c .variables) valuation
-  pub bodyIn : All (InstanceIn interpret valuation S) (c .body)
-  pub headOut : ¬ InstanceIn interpret valuation S (c .head)
-
--- clause number i has a violation, and no clause of a lower number has one
-pub record LowestViolation (m : ℕ) (interpret : ℕ → List ℕ → ℕ) (clauses : List Clause) (S : AtomSet) (i : ℕ) : Type 0 where
-  pub clause : Clause
-  pub numbered : getElem? clauses i ≡ some clause
-  pub violation : Violation m interpret S clause
-  pub lower : (j : ℕ) → j < i → (c : Clause) → getElem? clauses j ≡ some c → ¬ Violation m interpret S c
 
 -- 13: the test finds the violations in the set of the atoms
 module _ (m : ℕ) (interpret : ℕ → List ℕ → ℕ) (atoms : List (List ℕ)) (S : AtomSet) (is : (p : ℕ) (row : List ℕ) → T (among atoms p row) ↔ S p row) where
@@ -464,7 +450,7 @@ module _ (m : ℕ) (interpret : ℕ → List ℕ → ℕ) (atoms : List (List �
             headOut = λ h. clash (instanceIn interpret ν (among atoms) (c .head)) (is (c .head .predicate) (termStates interpret ν (c .head .arguments)) .1 h) t;
           },
         ))
-        (subst (Lowest (length clauses) test) e (lowest-law (length clauses) test) (w .0) (at-lt clauses (w .0) c (w .1)))))
+        (lowest-nowhere (length clauses) test .0 e (w .0) (at-lt clauses (w .0) c (w .1)))))
         (decide (instanceIn interpret ν (among atoms) (c .head)))),
     (λ closed.
         lowest-none (length clauses) test (λ i lt.
@@ -480,13 +466,13 @@ module _ (m : ℕ) (interpret : ℕ → List ℕ → ℕ) (atoms : List (List �
       → (lowest (length clauses) (violatedAt m interpret atoms clauses) ≡ some i) ↔ LowestViolation m interpret clauses S i
   first-violated clauses i = (
     (λ e.
-        let h = subst (Lowest (length clauses) test) e (lowest-law (length clauses) test) in
-        let w = violatedAt-is clauses i .0 (h .1) in
+        let h = lowest-some (length clauses) test i .0 e in
+        let w = violatedAt-is clauses i .0 (h .here) in
         record {
           clause = w .0;
           numbered = w .1;
           violation = w .2;
-          lower = λ j lt c at v. clash (test j) (violatedAt-is clauses j .1 (c, at, v)) (h .2 j lt);
+          lower = λ j lt c at v. clash (test j) (violatedAt-is clauses j .1 (c, at, v)) (h .lower j lt);
         }),
     (λ v.
         lowest-is
@@ -534,6 +520,21 @@ refusedAt-zero : (number : ℕ) (o : Option ℕ) (after : Answer)
     → refusedAt number o after ≡ accepted
 refusedAt-zero number none after other h = h
 refusedAt-zero number (some i) after other h = λ e. absurd (other e)
+
+-- a refusal: this one at its place, or one that comes after where it does not fit
+refusedAt-exact : {B : Type 0} (number n k : ℕ) (o : Option ℕ) (after : Answer)
+    → ((after ≡ refused n k) ↔ B)
+    → (refusedAt number o after ≡ refused n k) ↔ (((n ≡ number) × (o ≡ some k)) ⊎ ((o ≡ none) × B))
+refusedAt-exact number n k none after h = (
+  λ e. inr (refl, h .0 e),
+  ⊎-elim (λ w. absurd (Option·none-ne-some k (w .1))) (λ w. h .1 (w .1)),
+)
+refusedAt-exact number n k (some i) after h = (
+  λ e. inl (sym (ap (λ (a : Answer). a .number) e), ap some (ap (λ (a : Answer). a .place) e)),
+  ⊎-elim
+      (λ w. λ j. record { number = sym (w .0) j; place = Option·some-injective i k (w .1) j })
+      (λ w. absurd (Option·some-ne-none i (w .0))),
+)
 
 -- an atom is among the contents of a sheet's atom fields exactly if it is in the sheet
 among-is : (xs : List ℕ) (atoms : List (List ℕ)) (sheet : List ℕ)
@@ -623,6 +624,22 @@ module _ (states : List ℕ) (interpret : ℕ → List ℕ → ℕ) (preds : Lis
       (refusedAt-past 12 0 0 (wrongAt sheet) _ (omega arith)
       (refusedAt-accepted 13 (violationAt sheet) (omega arith))))
 
+  -- its number is 0, or 10 and more
+  pub check-number : (sheet : List ℕ) → (sheetAnswer states interpret preds clauses sheet .number ≡ 0) ⊎ (9 < sheetAnswer states interpret preds clauses sheet .number)
+  unfolding sheetAnswer checkFields
+  check-number sheet =
+      go 10 (misplacedAt sheet) _ (omega arith)
+      (go 11 (differAt sheet) _ (omega arith)
+      (go 12 (wrongAt sheet) _ (omega arith)
+      (go 13 (violationAt sheet) accepted (omega arith) (inl refl))))
+    where
+      go : (number : ℕ) (o : Option ℕ) (after : Answer)
+          → 9 < number
+          → (after .number ≡ 0) ⊎ (9 < after .number)
+          → (refusedAt number o after .number ≡ 0) ⊎ (9 < refusedAt number o after .number)
+      go number none after lt h = h
+      go number (some k) after lt h = inr lt
+
   -- a number 0 stands with place 0
   pub check-zero : (sheet : List ℕ) → sheetAnswer states interpret preds clauses sheet .number ≡ 0 → sheetAnswer states interpret preds clauses sheet ≡ accepted
   unfolding sheetAnswer checkFields
@@ -631,6 +648,55 @@ module _ (states : List ℕ) (interpret : ℕ → List ℕ → ℕ) (preds : Lis
       (refusedAt-zero 11 (differAt sheet) _ (omega arith)
       (refusedAt-zero 12 (wrongAt sheet) _ (omega arith)
       (refusedAt-zero 13 (violationAt sheet) accepted (omega arith) (λ e. refl))))
+
+  -- the answer is a refusal exactly if it is given by 01's table
+  pub check-given : (sheet : List ℕ)
+      → Bytes sheet
+      → (n k : ℕ)
+      → n ≢ 0
+      → (sheetAnswer states interpret preds clauses sheet ≡ refused n k) ↔ GivenSheet states interpret preds clauses sheet n k
+  unfolding sheetAnswer checkFields firstField
+  check-given sheet bytes n k pos = (λ e. to (options .0 e), λ w. options .1 (back w))
+    where
+      Options : Type 0
+      Options =
+          ((n ≡ 10) × (misplacedAt sheet ≡ some k))
+          ⊎ ((misplacedAt sheet ≡ none)
+          × (((n ≡ 11) × (differAt sheet ≡ some k))
+          ⊎ ((differAt sheet ≡ none)
+          × (((n ≡ 12) × (wrongAt sheet ≡ some k))
+          ⊎ ((wrongAt sheet ≡ none) × (((n ≡ 13) × (violationAt sheet ≡ some k)) ⊎ ((violationAt sheet ≡ none) × ⊥)))))))
+
+      options : (checkFields states interpret preds clauses (fields sheet) ≡ refused n k) ↔ Options
+      options =
+          refusedAt-exact 10 n k (misplacedAt sheet) _
+          (refusedAt-exact 11 n k (differAt sheet) _
+          (refusedAt-exact 12 n k (wrongAt sheet) _
+          (refusedAt-exact 13 n k (violationAt sheet) accepted (λ e. pos (sym (ap (λ (a : Answer). a .number) e)), absurd))))
+
+      in-sheet-is : misplacedAt sheet ≡ none → (p : ℕ) (row : List ℕ) → T (among (contentsOf atomTag (fields sheet)) p row) ↔ InSheet sheet p row
+      in-sheet-is none10 = let w = placed-sheet preds sheet bytes none10 in among-is (w .0) (w .1) sheet (w .2)
+
+      violations : misplacedAt sheet ≡ none → (violationAt sheet ≡ some k) ↔ LowestViolation (length states) interpret clauses (InSheet sheet) k
+      violations none10 = first-violated (length states) interpret (contentsOf atomTag (fields sheet)) (InSheet sheet) (in-sheet-is none10) clauses k
+
+      to : Options → GivenSheet states interpret preds clauses sheet n k
+      to (inl w) = inl (w .0, lowest-some _ _ k .0 (w .1))
+      to (inr (none10, inl w)) = inr (inl (w .0, lowest-nowhere _ _ .0 none10, lowest-some _ _ k .0 (w .1)))
+      to (inr (none10, inr (none11, inl w))) =
+          inr (inr (inl (w .0, lowest-nowhere _ _ .0 none10, lowest-nowhere _ _ .0 none11, lowest-some _ _ k .0 (w .1))))
+      to (inr (none10, inr (none11, inr (none12, inl w)))) =
+          inr (inr (inr (w .0, lowest-nowhere _ _ .0 none10, lowest-nowhere _ _ .0 none11, lowest-nowhere _ _ .0 none12, violations none10 .0 (w .1))))
+      to (inr (none10, inr (none11, inr (none12, inr w)))) = absurd (w .1)
+
+      back : GivenSheet states interpret preds clauses sheet n k → Options
+      back (inl w) = inl (w .0, lowest-some _ _ k .1 (w .1))
+      back (inr (inl w)) = inr (lowest-nowhere _ _ .1 (w .1), inl (w .0, lowest-some _ _ k .1 (w .2)))
+      back (inr (inr (inl w))) =
+          inr (lowest-nowhere _ _ .1 (w .1), inr (lowest-nowhere _ _ .1 (w .2), inl (w .0, lowest-some _ _ k .1 (w .3))))
+      back (inr (inr (inr w))) =
+          let none10 = lowest-nowhere _ _ .1 (w .1) in
+          inr (none10, inr (lowest-nowhere _ _ .1 (w .2), inr (lowest-nowhere _ _ .1 (w .3), inl (w .0, violations none10 .1 (w .4)))))
 
   -- a sheet that passes 10 to 12 is laid out and carries the states, and the other way round
   passed-laid : (sheet : List ℕ)
@@ -656,6 +722,16 @@ module _ (states : List ℕ) (interpret : ℕ → List ℕ → ℕ) (preds : Lis
         subst (λ (b : List ℕ). wrongAt b ≡ none) (sym (laid .2)) (sheet-right (length states) preds (laid .0) (laid .1) content .1 (laid .3, laid .4)),
       )
 
+  -- 13 fits nowhere exactly if the sheet is closed
+  closed-exact : (sheet : List ℕ) → Carries states sheet → (violationAt sheet ≡ none) ↔ Closed (length states) interpret clauses (InSheet sheet)
+  closed-exact sheet c = none-violated (length states) interpret (contentsOf atomTag (fields sheet)) (InSheet sheet) (among-is states (c .0) sheet (c .1)) clauses
+
+  -- a valid certificate is accepted
+  pub valid-accepted : (sheet : List ℕ) → Valid states interpret preds clauses sheet → sheetAnswer states interpret preds clauses sheet ≡ accepted
+  valid-accepted sheet v =
+      let h = laid-passes sheet (v .laidOut) (v .carries) in
+      check-accepted sheet .1 (h .0, (h .1, (h .2, closed-exact sheet (v .carries) .1 (v .closed))))
+
   -- the check accepts exactly the valid certificates, whatever the bytes
   pub check-exact : (sheet : List ℕ)
       → Bytes sheet
@@ -664,14 +740,9 @@ module _ (states : List ℕ) (interpret : ℕ → List ℕ → ℕ) (preds : Lis
     (λ e.
         let h = check-accepted sheet .0 e in
         let l = passed-laid sheet bytes (h .0) (h .1 .0) (h .1 .1 .0) in
-        record { laidOut = l .0; carries = l .1; closed = closed (l .1) .0 (h .1 .1 .1) }),
-    (λ v.
-        let h = laid-passes sheet (v .laidOut) (v .carries) in
-        check-accepted sheet .1 (h .0, (h .1, (h .2, closed (v .carries) .1 (v .closed))))),
+        record { laidOut = l .0; carries = l .1; closed = closed-exact sheet (l .1) .0 (h .1 .1 .1) }),
+    valid-accepted sheet,
   )
-    where
-      closed : Carries states sheet → (violationAt sheet ≡ none) ↔ Closed (length states) interpret clauses (InSheet sheet)
-      closed c = none-violated (length states) interpret (contentsOf atomTag (fields sheet)) (InSheet sheet) (among-is states (c .0) sheet (c .1)) clauses
 
   -- 13 names the lowest clause that has an instance with its body in the sheet and its head not
   pub check-violation : (sheet : List ℕ)

@@ -15,7 +15,7 @@ use lib.Seq.{append-snoc, length-take-le, take-at, drop-at, take-append-seam, ta
 use Rattle.meaning.specs.Lists.{All, joined}
 use Rattle.meaning.specs.Fields.{Bytes, Field, whole, cut, word, Front, empty, short, front, frontOf, onFront, fieldsWithin, fields, contentsOf, encodeField, firstField}
 use Rattle.meaning.specs.Refusals.{isCut}
-use Rattle.meaning.proofs.Lists.{T-of, cond-yes, cond-no, All-split, All-append, Lowest, lowest-law, lowest-is, lowest-none}
+use Rattle.meaning.proofs.Lists.{T-of, cond-yes, cond-no, All-split, All-append, lowest-some, lowest-nowhere, lowest-is, lowest-none}
 
 -- a length is its two bytes
 pub word-halves : (n : ℕ) → word (n / 256) (n % 256) ≡ n
@@ -164,6 +164,19 @@ abbrev pub encodeWhole : Field → List ℕ
 encodeWhole (whole tag content) = encodeField tag content
 encodeWhole cut = []
 
+-- whole fields have as many bytes as the fields that they are the encoding of
+pub fields-length : (bytes : List ℕ)
+    → All (λ (f : Field). T (not (isCut f))) (fields bytes)
+    → length bytes ≡ length (joined (map encodeWhole (fields bytes)))
+fields-length =
+    fields-induct
+    (λ (bytes : List ℕ) (fs : List Field). All (λ (f : Field). T (not (isCut f))) fs → length bytes ≡ length (joined (map encodeWhole fs)))
+    (λ k. refl)
+    (λ bytes lt k. absurd (k .0))
+    (λ tag high low content rest e later k.
+    let w = later (k .1) in
+    omega (arith, w, length-append content rest, length-append (encodeField tag content) (joined (map encodeWhole (fields rest)))))
+
 pub fields-whole : (bytes : List ℕ)
     → Bytes bytes
     → All (λ (f : Field). T (not (isCut f))) (fields bytes)
@@ -309,7 +322,7 @@ module _ (test : List Field → Field → Bool) where
   pub firstField-none : (fs : List Field) → (firstField test fs ≡ none) ↔ NoField test [] fs
   unfolding firstField
   firstField-none fs = (
-    (λ e. NoField-of fs (subst (Lowest (length fs) passes) e (lowest-law (length fs) passes))),
+    (λ e. NoField-of fs (lowest-nowhere (length fs) passes .0 e)),
     (λ h. lowest-none (length fs) passes (NoField-at fs h)),
   )
     where
@@ -322,7 +335,7 @@ module _ (test : List Field → Field → Bool) where
       ↔ ((k < length fs) × T (test (take k fs) (getD fs k cut)) × ((i : ℕ) → i < k → T (not (test (take i fs) (getD fs i cut)))))
   unfolding firstField
   firstField-some fs k = (
-    (λ e. subst (Lowest (length fs) passes) e (lowest-law (length fs) passes)),
+    (λ e. let w = lowest-some (length fs) passes k .0 e in (w .inside, w .here, w .lower)),
     (λ h. lowest-is (length fs) passes k (h .0) (h .1) (h .2)),
   )
     where

@@ -2,7 +2,7 @@
 -- of it. Assumes nothing.
 use Prim.Native.Nat.{ℕ, zero, suc, _<_, suc-le-suc}
 use mathlib.Core.Path.{_≡_, refl, sym, ap, ap₂, subst, _∙_}
-use mathlib.Core.Logic.{_⊎_, inl, inr, ⊎-elim}
+use mathlib.Core.Logic.{_⊎_, inl, inr, ⊎-elim, _↔_}
 use mathlib.Core.Bool.{Bool, true, false, cond, not, _&&_, _||_}
 use mathlib.Core.List.{List, [], _∷_, _++_, append-assoc, List·Memᴰ, List·Memᴰ·head, List·Memᴰ·tail, List·Memᴰ·cases-cons, List·Memᴰ·not-nil, List·Memᴰ·append-cases, Memᴰ·append-left, Memᴰ·append-right}
 use mathlib.Core.Option.{Option, none, some}
@@ -11,7 +11,7 @@ use native.Mathlib.Decide.{decLt}
 use native.Mathlib.Omega.{arith}
 use lib.Dec.{T, eqb, eqb→eq, eqb-refl}
 use lib.ListN.{length, getD}
-use Rattle.meaning.specs.Lists.{anyOf, allOf, All, anyBelow, lowest, same, joined, table}
+use Rattle.meaning.specs.Lists.{anyOf, allOf, All, anyBelow, lowest, LowestBelow, NoneBelow, same, joined, table}
 
 -- a test and its negation
 pub decide : (b : Bool) → T b ⊎ T (not b)
@@ -243,20 +243,20 @@ anyBelow-give (suc n) f i lt h =
 
 -- the lowest number that passes
 abbrev pub Lowest : ℕ → (ℕ → Bool) → Option ℕ → Type 0
-Lowest n f none = (i : ℕ) → i < n → T (not (f i))
-Lowest n f (some k) = (k < n) × T (f k) × ((i : ℕ) → i < k → T (not (f i)))
+Lowest n f none = NoneBelow n f
+Lowest n f (some k) = LowestBelow n f k
 
 pub lowest-law : (n : ℕ) (f : ℕ → Bool) → Lowest n f (lowest n f)
 lowest-law zero f = λ i lt. absurd (not-suc-le-zero lt)
 lowest-law (suc n) f = go (lowest n f) (lowest-law n f)
   where
-    last : (b : Bool) → f n ≡ b → ((i : ℕ) → i < n → T (not (f i))) → Lowest (suc n) f (cond b (some n) none)
-    last true e h = (lt-suc-self n, T-of (f n) e, h)
+    last : (b : Bool) → f n ≡ b → NoneBelow n f → Lowest (suc n) f (cond b (some n) none)
+    last true e h = record { inside = lt-suc-self n; here = T-of (f n) e; lower = h }
     last false e h = λ i lt. ⊎-elim (λ (q : i ≡ n). subst (λ (j : ℕ). T (not (f j))) (sym q) (T-not-of (f n) e)) (λ k. h i k) (eq-or-lt-of-le (le-of-suc-le-suc lt))
 
     go : (o : Option ℕ) → Lowest n f o → Lowest (suc n) f (elim o [ none ↦ cond (f n) (some n) none | some i ↦ some i ])
     go none h = last (f n) refl h
-    go (some k) h = (le-step (h .0), h .1, h .2)
+    go (some k) h = record { inside = le-step (h .inside); here = h .here; lower = h .lower }
 
 -- it is the only one
 pub lowest-is : (n : ℕ) (f : ℕ → Bool) (k : ℕ) → k < n → T (f k) → ((i : ℕ) → i < k → T (not (f i))) → lowest n f ≡ some k
@@ -269,14 +269,23 @@ lowest-is n f k lt t below = go (lowest n f) (lowest-law n f)
 
     go : (o : Option ℕ) → Lowest n f o → o ≡ some k
     go none h = absurd (clash (f k) t (h k lt))
-    go (some j) h = same-place j (trichotomy j k) (h .1) (h .2)
+    go (some j) h = same-place j (trichotomy j k) (h .here) (h .lower)
 
-pub lowest-none : (n : ℕ) (f : ℕ → Bool) → ((i : ℕ) → i < n → T (not (f i))) → lowest n f ≡ none
+pub lowest-none : (n : ℕ) (f : ℕ → Bool) → NoneBelow n f → lowest n f ≡ none
 lowest-none n f h = go (lowest n f) (lowest-law n f)
   where
     go : (o : Option ℕ) → Lowest n f o → o ≡ none
     go none k = refl
-    go (some k) w = absurd (clash (f k) (w .1) (h k (w .0)))
+    go (some k) w = absurd (clash (f k) (w .here) (h k (w .inside)))
+
+pub lowest-some : (n : ℕ) (f : ℕ → Bool) (k : ℕ) → (lowest n f ≡ some k) ↔ LowestBelow n f k
+lowest-some n f k = (
+  λ e. subst (Lowest n f) e (lowest-law n f),
+  λ w. lowest-is n f k (w .inside) (w .here) (w .lower),
+)
+
+pub lowest-nowhere : (n : ℕ) (f : ℕ → Bool) → (lowest n f ≡ none) ↔ NoneBelow n f
+lowest-nowhere n f = (λ e. subst (Lowest n f) e (lowest-law n f), lowest-none n f)
 
 pub lowest-ext : (n : ℕ) (f g : ℕ → Bool) → ((i : ℕ) → i < n → f i ≡ g i) → lowest n f ≡ lowest n g
 lowest-ext zero f g h = refl

@@ -9,8 +9,9 @@ use native.Mathlib.Omega.{arith}
 use lib.Dec.{eqb, ltb}
 use borrow.Author.Tests.{ltb-true, ltb-false, eqb-true, eqb-false}
 use lib.ListN.{length, getD}
+use Rattle.meaning.specs.Lists.{Rising}
 use Rattle.meaning.specs.States.{insertRising, insertAll, indexOf}
-use Rattle.meaning.proofs.Lists.{mem-getD, mem-place}
+use Rattle.meaning.proofs.Lists.{trichotomy, mem-getD, mem-place}
 
 -- a list without one of its members
 module _ {A : Type 0} where
@@ -46,10 +47,6 @@ module _ {A : Type 0} where
       g
       (λ i lt. mem-without k (g i) (m i (le-step lt)) (ne i n lt (lt-suc-self n)))
       (λ i j lt le. ne i j lt (le-step le))))
-
--- strictly rising
-abbrev pub Rising : List ℕ → Type 0
-Rising l = (i j : ℕ) → i < j → j < length l → getD l i 0 < getD l j 0
 
 pub rising-nil : Rising []
 rising-nil i j lt le = absurd (not-suc-le-zero le)
@@ -254,3 +251,18 @@ getD-indexOf s (x ∷ l) m =
     l
     (λ e. sym e)
     (λ ne. getD-indexOf s l (⊎-elim (λ e. absurd (ne e)) (λ h. h) (List·Memᴰ·cases-cons m)))
+
+-- the place of a number of a rising list is the only one where it stands
+pub rising-index : (l : List ℕ) → Rising l → (i : ℕ) → i < length l → indexOf (getD l i 0) l ≡ i
+rising-index l r i lt = go (trichotomy j i)
+  where
+    j : ℕ
+    j = indexOf (getD l i 0) l
+
+    there : List·Memᴰ (getD l i 0) l
+    there = mem-getD l 0 i lt
+
+    go : (j < i) ⊎ ((j ≡ i) ⊎ (i < j)) → j ≡ i
+    go (inl h) = absurd (ne-of-lt (r j i h lt) (getD-indexOf (getD l i 0) l there))
+    go (inr (inl e)) = e
+    go (inr (inr h)) = absurd (ne-of-lt (r i j h (indexOf-lt (getD l i 0) l there)) (sym (getD-indexOf (getD l i 0) l there)))

@@ -3,9 +3,10 @@
 use Prim.Native.Nat.{ℕ, zero, suc, _+_, _*_, _/_, _%_, _^_, _<_, suc-le-suc}
 use mathlib.Core.Path.{_≡_, refl, sym, ap, subst, _∙_}
 use mathlib.Core.Bool.{Bool, true, false, _&&_}
-use native.Mathlib.Nat.{pow-zero, pow-succ', zero-lt-suc}
+use native.Mathlib.Nat.{pow-zero, pow-succ', zero-lt-suc, lt-of-lt-of-le}
 use native.Mathlib.Omega.{arith}
 use lib.Dec.{T, ltb, leb·suc-zero, leb·suc-suc}
+use lib.Pow.{pow-mono}
 use borrow.Author.Tests.{eqb-true, eqb-false, eq-eqb, ne-eqb, lt-ltb}
 use Rattle.meaning.specs.Types.{has, bit, setOf}
 
@@ -60,6 +61,18 @@ set-ext (suc n) a b lta ltb h =
       same-lowest a b (h 0 (zero-lt-suc n)),
       set-ext n (a / 2) (b / 2) (half-lt n a lta) (half-lt n b ltb) (λ t lt. h (suc t) (suc-le-suc lt)),
     )
+
+-- whatever their size: a number is below the power of two that it is the exponent of
+below-power : (n : ℕ) → n < 2 ^ n
+below-power zero = omega (arith, pow-zero 2)
+below-power (suc n) = omega (arith, pow-succ' 2 n, below-power n)
+
+pub set-same : (a b : ℕ) → ((t : ℕ) → has a t ≡ has b t) → a ≡ b
+set-same a b h =
+    set-ext (a + b) a b
+    (lt-of-lt-of-le (below-power a) (pow-mono (omega arith)))
+    (lt-of-lt-of-le (below-power b) (pow-mono (omega arith)))
+    (λ t lt. h t)
 
 -- a set below 2 ^ n holds only types below n
 pub has-lt : (n a t : ℕ) → a < 2 ^ n → T (has a t) → t < n

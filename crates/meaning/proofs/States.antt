@@ -11,19 +11,19 @@ use native.Mathlib.Omega.{arith}
 use lib.Dec.{T}
 use lib.ListN.{length, getD, length-append, length-map, List·getD-append}
 use lib.Seq.{getD-append-add}
-use Rattle.meaning.specs.Lists.{All, same, joined, table}
+use Rattle.meaning.specs.Lists.{All, same, joined, table, Rising}
 use Rattle.meaning.specs.Limits.{mostStates}
 use Rattle.meaning.specs.Syntax.{Tree, Trees, node, leaf, _▹_, treeCount, Production}
 use Rattle.meaning.specs.Legal.{Declared}
 use Rattle.meaning.specs.Cells.{cell, rowOf, start, cells}
-use Rattle.meaning.specs.Types.{has, Sym, signature, allowed, IsGround, AreGround, OfType, step, typesOf, typesOfs}
-use Rattle.meaning.specs.States.{setsAt, indexOf, reached, grow, saturate, determinise, cellOf, tablesFrom, tables}
+use Rattle.meaning.specs.Types.{has, Sym, signature, allowed, IsGround, AreGround, OfType, SameTypes, step, typesOf, typesOfs}
+use Rattle.meaning.specs.States.{setsAt, indexOf, reached, grow, saturate, determinise, cellOf, tablesFrom, tables, MoreStates}
 use Rattle.meaning.specs.Files.{statesFor}
 use Rattle.meaning.proofs.Lists.{T-of, T-not-of, clash, same-eq, eq-same, All-map, table-mem, mem-table, mem-joined, joined-mem, mem-getD, length-table, getD-table}
 use Rattle.meaning.proofs.Setting.{InRange, eachState, Homomorphism}
 use Rattle.meaning.proofs.Cells.{length-rowOf, rowOf-range, cell-lt, row-of-cell}
-use Rattle.meaning.proofs.Types.{symbolOf, types-lt, types-exact, allowed-listed, listed-allowed, declared-allowed}
-use Rattle.meaning.proofs.Rising.{Rising, rising-nil, pigeonhole, insertAll-new, insertAll-find, insertAll-rising, insertAll-longer, indexOf-lt, getD-indexOf}
+use Rattle.meaning.proofs.Types.{symbolOf, types-lt, types-exact, same-types-exact, allowed-listed, listed-allowed, declared-allowed}
+use Rattle.meaning.proofs.Rising.{rising-nil, pigeonhole, insertAll-new, insertAll-find, insertAll-rising, insertAll-longer, indexOf-lt, getD-indexOf}
 
 -- every set of a row is one of a list
 abbrev pub Among : List ℕ → List ℕ → Type 0
@@ -333,34 +333,36 @@ module _ (arities : List ℕ) (types : ℕ) (productions : List Production) wher
   termAt-is i (yes lt) h = let w = states-sound (getD states i 0) (mem-getD states 0 i lt) in (w .1, w .2)
   termAt-is i (no n) h = absurd (n h)
 
-  -- n ground terms that differ pairwise in their types
-  abbrev pub Differing : ℕ → Type 0
-  Differing n =
-      (ts : ℕ → Tree)
-      × ((i : ℕ) → i < n → IsGround arities (ts i))
-      × ((i j : ℕ) → i < j → j < n → typesOf productions types (ts i) ≢ typesOf productions types (ts j))
-
   -- the list is longer than 16 exactly if more than 16 states exist
-  pub more-states : (mostStates < length states) ↔ Differing (suc mostStates)
-  more-states = (differ, λ w. more w (decLt mostStates (length states)))
+  pub more-states : All (λ (p : Production). p .target < types) productions → (mostStates < length states) ↔ MoreStates arities productions
+  more-states within = (differ, λ w. more w (decLt mostStates (length states)))
     where
-      differ : mostStates < length states → Differing (suc mostStates)
-      differ longer =
-          let at : (i : ℕ) → i < suc mostStates → _ = λ i lt. termAt-is i (decLt i (length states)) (lt-of-lt-of-le lt longer) in (
-            (λ i. termAt i (decLt i (length states))),
-            (λ i lt. at i lt .0),
-            (λ i j lt le e. ne-of-lt (states-rising i j lt (lt-of-lt-of-le le longer)) (sym (at i (lt-trans lt le) .1) ∙ e ∙ at j le .1)),
-          )
+      same : (t u : Tree) → (typesOf productions types t ≡ typesOf productions types u) ↔ SameTypes productions t u
+      same = same-types-exact productions types within
 
-      more : Differing (suc mostStates) → Dec (mostStates < length states) → mostStates < length states
+      termOf : ℕ → Tree
+      termOf i = termAt i (decLt i (length states))
+
+      differ : mostStates < length states → MoreStates arities productions
+      differ longer =
+          let at : (i : ℕ) → i < suc mostStates → _ = λ i lt. termAt-is i (decLt i (length states)) (lt-of-lt-of-le lt longer) in
+          record {
+            term = termOf;
+            ground = λ i lt. at i lt .0;
+            differ =
+                λ i j lt le h.
+                ne-of-lt (states-rising i j lt (lt-of-lt-of-le le longer)) (sym (at i (lt-trans lt le) .1) ∙ same (termOf i) (termOf j) .1 h ∙ at j le .1);
+          }
+
+      more : MoreStates arities productions → Dec (mostStates < length states) → mostStates < length states
       more w (yes h) = h
       more w (no n) =
           pigeonhole
           (suc mostStates)
           states
-          (λ i. typesOf productions types (w .0 i))
-          (λ i lt. states-complete (omega arith) (w .0 i) (w .1 i lt))
-          (w .2)
+          (λ i. typesOf productions types (w .term i))
+          (λ i lt. states-complete (omega arith) (w .term i) (w .ground i lt))
+          (λ i j lt le e. w .differ i j lt le (same (w .term i) (w .term j) .0 e))
 
 -- the tables: a segment for each symbol, with a cell for each row, in which stands what the symbol gives over the row
 module _ (st : ℕ → List ℕ → ℕ) (states : List ℕ) where

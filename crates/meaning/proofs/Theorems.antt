@@ -9,28 +9,28 @@ use native.Mathlib.Nat.{lt-irrefl, le-step}
 use native.Mathlib.Omega.{arith}
 use lib.Dec.{T}
 use lib.ListN.{length, getD, take, length-append}
-use Rattle.meaning.specs.Lists.{All, joined}
+use Rattle.meaning.specs.Lists.{All, joined, Rising}
 use Rattle.meaning.specs.Syntax.{Tree, Trees, node, leaf, _▹_, treeCount, Production, Clause, Query}
 use Rattle.meaning.specs.Limits.{mostStates, stateTag, atomTag}
 use Rattle.meaning.specs.Legal.{Legal, Declared, NoneTwice, WellClause, WellQuery}
 use Rattle.meaning.specs.Types.{has, bit, IsGround, AreGround, OfType, typesOf}
 use Rattle.meaning.specs.Cells.{cell, start, cells}
 use Rattle.meaning.specs.States.{indexOf}
-use Rattle.meaning.specs.Clauses.{AtomSet, IsAtom, place, marked, Closed, stage, Open, isOpen}
+use Rattle.meaning.specs.Clauses.{AtomSet, IsAtom, place, marked, Closed, Brought, stage, Open, isOpen}
 use Rattle.meaning.specs.Clauses as Clauses
 use Rattle.meaning.specs.Ground.{NoneDerivable}
 use Rattle.meaning.specs.Fields.{Bytes, cut, encodeField, fields}
 use Rattle.meaning.specs.Refusals.{refused, accepted}
 use Rattle.meaning.specs.Files.{rulesOf, fileAnswer}
-use Rattle.meaning.specs.Certificates.{encodeSheet, stateBytes, IsSheetAtom, LaidOut, Carries, InSheet, Valid, sheetAnswer}
-use Rattle.meaning.specs.Calls.{symbolArities, predicateArities, statesOf, stepOf, interpretationOf, tablesOf, roundsOf, modelOf, atomsOf, verdictOf, OrderOf}
+use Rattle.meaning.specs.Certificates.{encodeSheet, stateBytes, IsSheetAtom, LaidOut, Carries, InSheet, Valid, sheetAnswer, LowestViolation}
+use Rattle.meaning.specs.Calls.{symbolArities, predicateArities, statesOf, stepOf, interpretationOf, tablesOf, roundsOf, modelOf, atomsOf, verdictOf, OrderOf, Admitted}
 use Rattle.meaning.proofs.Lists.{All-map, All-find}
 use Rattle.meaning.proofs.Cells.{place-lt}
-use Rattle.meaning.proofs.Acceptance.{accepted-legal}
-use Rattle.meaning.proofs.Answers.{refusal-range, Read, symbolsOf, Given, refused-exact}
+use Rattle.meaning.proofs.Acceptance.{accepted-rules, legal-targets}
+use Rattle.meaning.specs.Given.{NoneRefused, Given}
+use Rattle.meaning.proofs.Answers.{refusal-range, symbolsOf, refused-exact}
 use Rattle.meaning.proofs.Setting.{InRange, Homomorphism, eachState}
 use Rattle.meaning.proofs.Types.{types-exact, declared-allowed}
-use Rattle.meaning.proofs.Rising.{Rising}
 use Rattle.meaning.proofs.States as States
 use Rattle.meaning.proofs.Stages as Stages
 use Rattle.meaning.proofs.Model as Model
@@ -39,19 +39,18 @@ use Rattle.meaning.proofs.Soundness as Soundness
 use Rattle.meaning.proofs.MarkedAtoms as MarkedAtoms
 use Rattle.meaning.proofs.Certificates as Certificates
 
--- what is known of an accepted file
-pub record Admitted (file : List ℕ) : Type 0 where
-  pub legal : Legal (rulesOf file)
-  pub few : length (statesOf file) ≤ mostStates
-
-pub accepted-is-admitted : (file : List ℕ) → Bytes file → fileAnswer file ≡ accepted → Admitted file
+pub accepted-is-admitted : (file : List ℕ) → fileAnswer file ≡ accepted → Admitted file
 unfolding statesOf symbolArities
-accepted-is-admitted file bytes e = let w = accepted-legal file bytes e in record { legal = w .0; few = w .2 }
+accepted-is-admitted file e = let w = accepted-rules file e in record { legal = w .0; few = w .1 }
 
 -- a verdict as a byte
-bit-one : (b : Bool) → (bit b ≡ 1) ↔ T b
+pub bit-one : (b : Bool) → (bit b ≡ 1) ↔ T b
 bit-one true = (λ e. tt, λ t. refl)
 bit-one false = (λ (e : _≡_ {A = ℕ} 0 1). absurd (omega arith), λ t. absurd t)
+
+pub bit-zero : (b : Bool) → (bit b ≡ 0) ↔ (¬ T b)
+bit-zero true = (λ (e : _≡_ {A = ℕ} 1 0). absurd (omega arith), λ h. absurd (h tt))
+bit-zero false = (λ e t. t, λ h. refl)
 
 zero-ne-one : _≢_ {A = ℕ} 0 1
 zero-ne-one e = omega arith
@@ -80,8 +79,8 @@ module _ (file : List ℕ) (admitted : Admitted file) where
   abbrev pub stateOfTerm : Tree → ℕ
   stateOfTerm t = indexOf (typesOf productions types t) (statesOf file)
 
-  targets : All (λ (p : Production). p .target < types) productions
-  targets = All-map productions (λ p w. w .0) (admitted .legal .productions)
+  pub targets : All (λ (p : Production). p .target < types) productions
+  targets = legal-targets (rulesOf file) (admitted .legal)
 
   -- The types of a ground term are those that 01 gives it.
   pub types-are-exact : (t : Tree) (q : ℕ) → T (has (typesOf productions types t) q) ↔ OfType productions t q
@@ -96,11 +95,11 @@ module _ (file : List ℕ) (admitted : Admitted file) where
   unfolding statesOf
   states-rise = States.states-rising (symbolArities file) types productions
 
-  homomorphism : Homomorphism (symbolArities file) productions (statesOf file) (interpretationOf file) stateOfTerm
+  pub homomorphism : Homomorphism (symbolArities file) productions (statesOf file) (interpretationOf file) stateOfTerm
   unfolding statesOf interpretationOf stepOf
   homomorphism = States.homomorphism (symbolArities file) types productions (admitted .few) targets
 
-  range : InRange (symbolArities file) (length (statesOf file)) (interpretationOf file)
+  pub range : InRange (symbolArities file) (length (statesOf file)) (interpretationOf file)
   unfolding statesOf interpretationOf stepOf
   range = States.cell-range (symbolArities file) types productions (admitted .few)
 
@@ -146,7 +145,7 @@ module _ (file : List ℕ) (admitted : Admitted file) where
   abbrev DomainAtom : ℕ → List ℕ → Type 0
   DomainAtom p row = IsAtom (length (statesOf file)) (predicateArities file) p row
 
-  wellClauses : All (WellClause (symbolArities file) (predicateArities file)) clauses
+  pub wellClauses : All (WellClause (symbolArities file) (predicateArities file)) clauses
   unfolding symbolArities predicateArities
   wellClauses = admitted .legal .clauses
 
@@ -154,6 +153,13 @@ module _ (file : List ℕ) (admitted : Admitted file) where
   pub stages-rise : (k p : ℕ) (row : List ℕ) → DomainAtom p row → InMarks (stageOf k) p row → InMarks (stageOf (suc k)) p row
   stages-rise =
       Stages.stage-rises (symbolArities file) (predicateArities file) (length (statesOf file)) (interpretationOf file) clauses range wellClauses
+
+  -- Stage k + 1 holds exactly the head instances of the clauses, under valuations with all body instances in stage k.
+  pub stages-are-exact : (k p : ℕ) (row : List ℕ)
+      → DomainAtom p row
+      → InMarks (stageOf (suc k)) p row ↔ Brought (length (statesOf file)) (interpretationOf file) clauses (InMarks (stageOf k)) p row
+  stages-are-exact =
+      Stages.stage-next (symbolArities file) (predicateArities file) (length (statesOf file)) (interpretationOf file) clauses range wellClauses
 
   pub rounds-settle : stageOf (suc (roundsOf file)) ≡ stageOf (roundsOf file)
   unfolding roundsOf
@@ -254,7 +260,7 @@ module _ (file : List ℕ) (admitted : Admitted file) where
       → Carries (statesOf file) sheet
       → (i : ℕ)
       → (sheetAnswer (statesOf file) (interpretationOf file) (predicateArities file) clauses sheet ≡ refused 13 i)
-      ↔ Certificates.LowestViolation (length (statesOf file)) (interpretationOf file) clauses (InSheet sheet) i
+      ↔ LowestViolation (length (statesOf file)) (interpretationOf file) clauses (InSheet sheet) i
   violations-are-exact = Certificates.check-violation (statesOf file) (interpretationOf file) (predicateArities file) clauses
 
   -- Certificates are sound: a valid one without an instance of a query, one of the file's or any other, leaves no ground instance of it derivable,
@@ -317,27 +323,3 @@ written-length file order is =
     length-append front (atoms order)
     ∙ ap (λ (n : ℕ). length front + n) (MarkedAtoms.order-length (length (statesOf file)) (predicateArities file) (modelOf file) order is)
     ∙ sym (length-append front (atoms (atomsOf file)))
-
--- 8 exactly if no earlier number fits and 17 ground terms have pairwise different sets of types
-pub eight-is-exact : (file : List ℕ) (k : ℕ)
-    → (fileAnswer file ≡ refused 8 k)
-    ↔ (Read file
-    × (k ≡ length (fields file))
-    × List·Memᴰ 0 (symbolsOf file)
-    × States.Differing (symbolsOf file) (length (rulesOf file .types)) (rulesOf file .productions) (suc mostStates))
-eight-is-exact file k =
-    let exact = refused-exact file 8 k (λ (e : _≡_ {A = ℕ} 8 0). omega arith) in
-    let more = States.more-states (symbolsOf file) (length (rulesOf file .types)) (rulesOf file .productions) in (
-      λ e. go (exact .0 e),
-      λ w. exact .1 (inr (w .0, refl, w .1, w .2, more .1 (w .3))),
-    )
-  where
-    go : Given file 8 k
-        → Read file
-        × (k ≡ length (fields file))
-        × List·Memᴰ 0 (symbolsOf file)
-        × States.Differing (symbolsOf file) (length (rulesOf file .types)) (rulesOf file .productions) (suc mostStates)
-    go (inl (inl w)) = let q : _≡_ {A = ℕ} 8 1 = w .1 in absurd (omega arith)
-    go (inl (inr (inl w))) = absurd (lt-irrefl 8 (le-step (refusal-range (take k (fields file)) (getD (fields file) k cut) 8 (w .1 .here) .1)))
-    go (inl (inr (inr w))) = let q : _≡_ {A = ℕ} 8 7 = w .1 in absurd (omega arith)
-    go (inr w) = (w .0, w .2, w .3, States.more-states (symbolsOf file) (length (rulesOf file .types)) (rulesOf file .productions) .0 (w .4))

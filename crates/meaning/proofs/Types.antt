@@ -12,9 +12,9 @@ use lib.ListN.{length, getD}
 use Rattle.meaning.specs.Lists.{anyOf, All}
 use Rattle.meaning.specs.Syntax.{Tree, Trees, node, leaf, _▹_, Production}
 use Rattle.meaning.specs.Legal.{Declared}
-use Rattle.meaning.specs.Types.{has, Sym, numbered, signature, allowed, OfType, OfTypes, fits, step, typesOf, typesOfs}
-use Rattle.meaning.proofs.Lists.{T-of, both, both-of, any-find, any-give, All-find}
-use Rattle.meaning.proofs.Sets.{has-setOf, setOf-lt}
+use Rattle.meaning.specs.Types.{has, Sym, numbered, signature, allowed, OfType, OfTypes, IsTypeSet, SameTypes, fits, step, typesOf, typesOfs}
+use Rattle.meaning.proofs.Lists.{T-of, bool-ext, both, both-of, any-find, any-give, All-find}
+use Rattle.meaning.proofs.Sets.{has-setOf, setOf-lt, set-same}
 
 -- a production gives a symbol over a row of sets a type
 abbrev Gives : ℕ → List ℕ → ℕ → Production → Type 0
@@ -108,6 +108,25 @@ module _ (productions : List Production) (types : ℕ) where
 
     pub types-exact : (t : Tree) (q : ℕ) → T (has (typesOf productions types t) q) ↔ OfType productions t q
     types-exact t q = (types-find t q, types-give t q)
+
+    -- the set of a term's types is that set alone
+    pub type-set-exact : (t : Tree) (s : ℕ) → (typesOf productions types t ≡ s) ↔ IsTypeSet productions t s
+    type-set-exact t s = (
+      λ e. subst (IsTypeSet productions t) e (types-exact t),
+      λ h.
+          set-same (typesOf productions types t) s
+          (λ q. bool-ext (has (typesOf productions types t) q) (has s q) (λ k. h q .1 (types-find t q k)) (λ k. types-give t q (h q .0 k))),
+    )
+
+    -- terms with the same types have the same set
+    pub same-types-exact : (t u : Tree) → (typesOf productions types t ≡ typesOf productions types u) ↔ SameTypes productions t u
+    same-types-exact t u = (
+      λ e q. (
+        λ h. types-find u q (subst (λ (s : ℕ). T (has s q)) e (types-give t q h)),
+        λ h. types-find t q (subst (λ (s : ℕ). T (has s q)) (sym e) (types-give u q h)),
+      ),
+      λ h. type-set-exact t (typesOf productions types u) .1 (λ q. (λ k. h q .1 (types-find u q k), λ k. types-give u q (h q .0 k))),
+    )
 
 -- a symbol with its arity
 abbrev pub symbolOf : ℕ → ℕ → Sym

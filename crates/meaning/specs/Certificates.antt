@@ -1,13 +1,14 @@
 -- Certificates (01: the sheet): what it is for bytes to be laid out, to carry the states, to be closed and to hold an atom; the check's
 -- answers as tests; what a writer may write. A domain atom stands here as in its field: the predicate, then the row of states.
-use Prim.Native.Nat.{ℕ, zero, suc, _^_, _/_, _%_, max}
+use Prim.Native.Nat.{ℕ, zero, suc, _^_, _/_, _%_, _<_, max}
 use mathlib.Core.Path.{_≡_}
+use mathlib.Core.Logic.{_⊎_}
 use mathlib.Core.Bool.{Bool, true, false, cond, not, _&&_, _||_}
 use mathlib.Core.List.{List, [], _∷_, _++_, map, List·Memᴰ, List·Permᴰ}
 use mathlib.Core.Option.{Option, none, some}
 use lib.Dec.{eqb, ltb}
-use lib.ListN.{length, getD}
-use Rattle.meaning.specs.Lists.{anyOf, allOf, anyBelow, All, same, lowest, joined, table}
+use lib.ListN.{length, getD, take, getElem?}
+use Rattle.meaning.specs.Lists.{anyOf, allOf, anyBelow, All, LowestBelow, NoneBelow, same, lowest, joined, table}
 use Rattle.meaning.specs.Syntax.{Clause}
 use Rattle.meaning.specs.Limits.{stateTag, atomTag}
 use Rattle.meaning.specs.Fields.{Field, whole, cut, word, fields, contentsOf, encodeField, firstField}
@@ -15,7 +16,7 @@ use Rattle.meaning.specs.Contents.{declared}
 use Rattle.meaning.specs.Refusals.{Answer, refused, accepted}
 use Rattle.meaning.specs.Legal.{NoneTwice}
 use Rattle.meaning.specs.Cells.{rowOf}
-use Rattle.meaning.specs.Clauses.{AtomSet, IsAtom, Closed, instanceIn, marked}
+use Rattle.meaning.specs.Clauses.{AtomSet, IsAtom, IsValuation, InstanceIn, Closed, instanceIn, marked}
 
 -- a state's two bytes, high first
 abbrev pub stateBytes : ℕ → List ℕ
@@ -99,6 +100,20 @@ violatedAt m interpret atoms [] i = false
 violatedAt m interpret atoms (c ∷ clauses) zero = violated m interpret atoms c
 violatedAt m interpret atoms (c ∷ clauses) (suc i) = violatedAt m interpret atoms clauses i
 
+-- the same as facts: an instance of a clause with its body in a set and its head not; the lowest clause that has one
+module _ (m : ℕ) (interpret : ℕ → List ℕ → ℕ) where
+  pub record Violation (S : AtomSet) (c : Clause) : Type 0 where
+    pub valuation : List ℕ
+    pub valued : IsValuation m (c .variables) valuation
+    pub bodyIn : All (InstanceIn interpret valuation S) (c .body)
+    pub headOut : ¬ InstanceIn interpret valuation S (c .head)
+
+  pub record LowestViolation (clauses : List Clause) (S : AtomSet) (i : ℕ) : Type 0 where
+    pub clause : Clause
+    pub numbered : getElem? clauses i ≡ some clause
+    pub violation : Violation S clause
+    pub lower : (j : ℕ) → j < i → (c : Clause) → getElem? clauses j ≡ some c → ¬ Violation S c
+
 -- a refusal at the lowest place that a test fits, if there is one, else what comes after
 abbrev pub refusedAt : ℕ → Option ℕ → Answer → Answer
 refusedAt number (some place) after = refused number place
@@ -116,6 +131,35 @@ module _ (states : List ℕ) (interpret : ℕ → List ℕ → ℕ) (preds : Lis
 
   unfoldable pub sheetAnswer : List ℕ → Answer
   sheetAnswer sheet = checkFields (fields sheet)
+
+-- the same as facts about the sheet's fields (01, the column "given when"): a number with its place
+module _ (states : List ℕ) (interpret : ℕ → List ℕ → ℕ) (preds : List ℕ) (clauses : List Clause) (sheet : List ℕ) where
+  abbrev misplacedAt : ℕ → Bool
+  misplacedAt k = misplaced preds (take k (fields sheet)) (getD (fields sheet) k cut)
+
+  abbrev differAt : ℕ → Bool
+  differAt i = differ (statesIn (fields sheet)) states i
+
+  abbrev wrongAt : ℕ → Bool
+  wrongAt k = wrongAtom (length states) (take k (fields sheet)) (getD (fields sheet) k cut)
+
+  -- how many fields the sheet has; among how many positions its states and the file's may differ
+  abbrev fieldCount : ℕ
+  fieldCount = length (fields sheet)
+
+  abbrev positions : ℕ
+  positions = max (length (statesIn (fields sheet))) (length states)
+
+  abbrev pub GivenSheet : ℕ → ℕ → Type 0
+  GivenSheet n k =
+      ((n ≡ 10) × LowestBelow fieldCount misplacedAt k)
+      ⊎ (((n ≡ 11) × NoneBelow fieldCount misplacedAt × LowestBelow positions differAt k)
+      ⊎ (((n ≡ 12) × NoneBelow fieldCount misplacedAt × NoneBelow positions differAt × LowestBelow fieldCount wrongAt k)
+      ⊎ ((n ≡ 13)
+      × NoneBelow fieldCount misplacedAt
+      × NoneBelow positions differAt
+      × NoneBelow fieldCount wrongAt
+      × LowestViolation (length states) interpret clauses (InSheet sheet) k)))
 
 -- the marked atoms, by rising predicate, then rising cell; `p` is the number of the first predicate of the list
 module _ (m : ℕ) (preds marks : List ℕ) where

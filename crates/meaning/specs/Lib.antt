@@ -15,3 +15,7 @@ pub mod Clauses
 pub mod Ground
 pub mod Certificates
 pub mod Calls
+pub mod Given
+pub mod Demand1
+pub mod Demand2
+pub mod Demand3

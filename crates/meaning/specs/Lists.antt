@@ -1,10 +1,10 @@
 -- Lists, and tests and facts over lists and numbers. A test is a Bool and computes; `T test` is the fact that it passes.
-use Prim.Native.Nat.{ℕ, zero, suc, _-_}
-use mathlib.Core.Bool.{Bool, true, false, cond, _&&_, _||_}
+use Prim.Native.Nat.{ℕ, zero, suc, _+_, _-_, _<_}
+use mathlib.Core.Bool.{Bool, true, false, cond, not, _&&_, _||_}
 use mathlib.Core.List.{List, [], _∷_, _++_}
 use mathlib.Core.Option.{Option, none, some}
-use lib.Dec.{eqb}
-use lib.ListN.{length, replicate}
+use lib.Dec.{T, eqb}
+use lib.ListN.{length, getD, replicate}
 
 module _ {A : Type 0} where
   -- some member passes
@@ -45,6 +45,29 @@ anyBelow (suc n) f = anyBelow n f || f n
 abbrev pub lowest : ℕ → (ℕ → Bool) → Option ℕ
 lowest zero f = none
 lowest (suc n) f = elim (lowest n f) [ none ↦ cond (f n) (some n) none | some i ↦ some i ]
+
+-- the same as a fact: k is the lowest number below n that passes; and no number below n passes
+pub record LowestBelow (n : ℕ) (f : ℕ → Bool) (k : ℕ) : Type 0 where
+  pub inside : k < n
+  pub here : T (f k)
+  pub lower : (j : ℕ) → j < k → T (not (f j))
+
+abbrev pub NoneBelow : ℕ → (ℕ → Bool) → Type 0
+NoneBelow n f = (j : ℕ) → j < n → T (not (f j))
+
+-- strictly rising
+abbrev pub Rising : List ℕ → Type 0
+Rising l = (i j : ℕ) → i < j → j < length l → getD l i 0 < getD l j 0
+
+-- how many numbers of a list are not 0; how many are 1
+abbrev pub nonzero : List ℕ → ℕ
+nonzero [] = 0
+nonzero (zero ∷ xs) = nonzero xs
+nonzero (suc x ∷ xs) = suc (nonzero xs)
+
+abbrev pub ones : List ℕ → ℕ
+ones [] = 0
+ones (x ∷ xs) = cond (eqb x 1) 1 0 + ones xs
 
 -- the same numbers in the same order
 abbrev pub same : List ℕ → List ℕ → Bool

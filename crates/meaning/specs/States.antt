@@ -1,14 +1,15 @@
 -- States and tables (01), by the book's determinisation: begin with nothing; for each symbol f and all states s1, .., sn already found
 -- add the set of f over them, the set with no type included, until nothing is new.
-use Prim.Native.Nat.{ℕ, zero, suc, _^_}
+use Prim.Native.Nat.{ℕ, zero, suc, _+_, _^_, _<_}
 use mathlib.Core.Bool.{true, false, cond}
 use mathlib.Core.List.{List, [], _∷_, _++_, map}
 use lib.Dec.{eqb, ltb}
 use lib.ListN.{length, getD}
 use Rattle.meaning.specs.Lists.{same, joined, table}
 use Rattle.meaning.specs.Limits.{mostStates}
-use Rattle.meaning.specs.Types.{Sym}
-use Rattle.meaning.specs.Cells.{rowOf}
+use Rattle.meaning.specs.Syntax.{Tree, Production}
+use Rattle.meaning.specs.Types.{Sym, IsGround, SameTypes}
+use Rattle.meaning.specs.Cells.{cell, rowOf, start}
 
 -- a number put into a rising list, once
 abbrev pub insertRising : ℕ → List ℕ → List ℕ
@@ -60,3 +61,13 @@ module _ (step : ℕ → List ℕ → ℕ) where
 
   unfoldable pub tables : List ℕ → List ℕ → List ℕ
   tables states arities = tablesFrom states 0 arities
+
+-- a symbol over a row of states, looked up in the tables
+abbrev pub lookUp : ℕ → List ℕ → List ℕ → ℕ → List ℕ → ℕ
+lookUp m arities tables f row = getD tables (start m arities f + cell m row) 0
+
+-- 8: more than 16 states exist: there are 17 ground terms, no two of which have the same set of types
+pub record MoreStates (arities : List ℕ) (productions : List Production) : Type 0 where
+  pub term : ℕ → Tree
+  pub ground : (i : ℕ) → i < suc mostStates → IsGround arities (term i)
+  pub differ : (i j : ℕ) → i < j → j < suc mostStates → ¬ SameTypes productions (term i) (term j)

@@ -1,6 +1,7 @@
 -- Sets of types as numbers, and the types of a ground term (01, "States, stages, verdicts").
 use Prim.Native.Nat.{ℕ, zero, suc, _+_, _*_, _/_, _%_}
 use mathlib.Core.Path.{_≡_}
+use mathlib.Core.Logic.{_↔_}
 use mathlib.Core.Bool.{Bool, true, false, _&&_}
 use mathlib.Core.List.{List, [], _∷_, List·Memᴰ}
 use lib.Dec.{T, eqb}
@@ -58,6 +59,14 @@ module _ (productions : List Production) where
     OfTypes leaf (q ∷ qs) = ⊥
     OfTypes (t ▹ ts) [] = ⊥
     OfTypes (t ▹ ts) (q ∷ qs) = OfType t q × OfTypes ts qs
+
+  -- a set of types is exactly the set of a ground term
+  abbrev pub IsTypeSet : Tree → ℕ → Type 0
+  IsTypeSet t s = (q : ℕ) → T (has s q) ↔ OfType t q
+
+  -- two ground terms have the same set of types
+  abbrev pub SameTypes : Tree → Tree → Type 0
+  SameTypes t u = (q : ℕ) → OfType t q ↔ OfType u q
 
 -- each set of the row holds the type at its place
 abbrev pub fits : List ℕ → List ℕ → Bool

@@ -8,6 +8,7 @@ use native.Mathlib.Omega.{arith}
 use lib.Dec.{T, lit≤, lit<}
 use lib.ListN.{length, getD, drop, length-append, length-map}
 use Rattle.meaning.specs.Lists.{All, lowest}
+use Rattle.meaning.specs.States.{lookUp}
 use Rattle.meaning.specs.Syntax.{Clause, Query}
 use Rattle.meaning.specs.Limits.{tagOf, Kind, symbol, predicate, clause, query}
 use Rattle.meaning.specs.Fields.{fields}
@@ -33,7 +34,7 @@ use Rattle.refusals.proofs.Knowing.{count-of, known-types, known-symbols, known
 use Rattle.rules.proofs.Whole.{well, knows-all, earlier, reads}
 use Rattle.rules.proofs.Limits.{accepted-read, accepted-few, predicates-few, predicates-small, states-some, predicates-known, predicates-count, predicates-length}
 use Rattle.accept.proofs.Ready.{limited}
-use Rattle.stages.specs.Tables.{lookUp, Setting}
+use Rattle.stages.specs.Tables.{Setting}
 use Rattle.stages.proofs.Tables.{lookUp-tables, range-states}
 use Rattle.stages.specs.Search.{clauseOf, clausesIn, Readable}
 use Rattle.stages.specs.Programs.{noAtom}

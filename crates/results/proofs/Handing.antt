@@ -14,11 +14,11 @@ use Rattle.meaning.specs.Calls.{statesOf, interpretationOf, tablesOf, roundsOf,
 use Rattle.meaning.specs.Limits.{query}
 use Rattle.meaning.proofs.Lists.{All-map}
 use Rattle.meaning.proofs.Stages.{stage-bits}
+use Rattle.meaning.specs.States.{lookUp}
 use Rattle.refusals.specs.declared.Known.{Known}
 use Rattle.refusals.specs.Tests.{knownTypes, knownSymbols, knownPredicates, earlierIn}
 use Rattle.rules.proofs.Limits.{accepted-read, accepted-few}
 use Rattle.accept.proofs.Ready.{limited}
-use Rattle.stages.specs.Tables.{lookUp}
 use Rattle.stages.specs.Masks.{stageMasks, bothMasks}
 use Rattle.stages.specs.Programs.{codeSize, planSize}
 use Rattle.stages.proofs.Empty.{room, zeros}

@@ -5,6 +5,7 @@ use mathlib.Core.List.{List}
 use lib.Dec.{T}
 use lib.ListN.{length, getD}
 use Rattle.meaning.specs.Lists.{All}
+use Rattle.meaning.specs.States.{lookUp}
 use Rattle.meaning.specs.Types.{bit}
 use Rattle.meaning.specs.Contents.{isSome, readQuery}
 use Rattle.cells.specs.Starts.{Starts}
@@ -15,7 +16,6 @@ use Rattle.meaning.specs.Calls.{statesOf, tablesOf, written}
 use Rattle.refusals.specs.declared.Known.{Known}
 use Rattle.refusals.specs.Known.{Knows, fieldsRead}
 use Rattle.refusals.specs.Tests.{knownSymbols, knownPredicates}
-use Rattle.stages.specs.Tables.{lookUp}
 use Rattle.stages.specs.Masks.{stageMasks, bothMasks}
 use Rattle.stages.specs.Programs.{codeSize, planSize}
 use Rattle.verdicts.specs.Asking.{queryOf}

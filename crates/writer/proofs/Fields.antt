@@ -11,14 +11,13 @@ use lib.Dec.{eqb, eqb·suc-zero}
 use lib.ListN.{length, getD, drop, length-append, drop-of-length-le}
 use lib.Seq.{drop-cons}
 use borrow.Author.Tests.{eq-eqb, ne-eqb}
-use Rattle.meaning.specs.Lists.{joined, table}
+use Rattle.meaning.specs.Lists.{joined, table, nonzero}
 use Rattle.meaning.specs.Limits.{stateTag, atomTag}
 use Rattle.meaning.specs.Fields.{encodeField}
 use Rattle.meaning.specs.Cells.{rowOf}
 use Rattle.meaning.specs.Certificates.{stateBytes}
 use Rattle.meaning.proofs.Lists.{table-ext, joined-append}
 use Rattle.meaning.proofs.Cells.{length-rowOf}
-use Rattle.meaning.proofs.MarkedAtoms.{nonzero}
 use Rattle.writer.specs.Parts.{stateFields, atomFields, partAtoms}
 
 -- the states' fields: the next one, the end, and 5 bytes each

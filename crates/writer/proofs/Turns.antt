@@ -8,12 +8,11 @@ use native.Mathlib.Omega.{arith}
 use lib.ListN.{length, getD, drop, length-append, length-drop, drop-of-length-le}
 use lib.Seq.{drop-cons, getD-take, getD-drop}
 use borrow.Rule.Slice.PartMut.{midOf, mid-len}
-use Rattle.meaning.specs.Lists.{All, joined, table}
+use Rattle.meaning.specs.Lists.{All, joined, table, nonzero}
 use Rattle.meaning.specs.Cells.{cell, rowOf, start, cells}
 use Rattle.meaning.specs.Certificates.{atomsFrom}
 use Rattle.meaning.proofs.Lists.{All-map, All-getD, table-ext}
 use Rattle.meaning.proofs.Cells.{cell-of-row}
-use Rattle.meaning.proofs.MarkedAtoms.{nonzero}
 use Rattle.cells.proofs.Segments.{start-most}
 use Rattle.cells.proofs.Fronts.{segment-end}
 use Rattle.segments.proofs.Counts.{counted-le}

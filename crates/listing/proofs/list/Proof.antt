@@ -2,7 +2,7 @@
 use mathlib.Core.Path.{_≡_}
 use native.Mathlib.Omega.{arith}
 use Rattle.meaning.specs.Calls.{Buffers}
-use Rattle.analysis.proofs.Theorems.{accepted-is, count-of-states, count-of-atoms, count-of-rounds, holds-states, holds-marks, holds-verdicts}
+use Rattle.analysis.proofs.Done.{accepted-is, count-of-states, count-of-atoms, count-of-rounds, holds-states, holds-marks, holds-verdicts}
 use borrow.Author.Needs.{needs}
 use Rattle.listing.proofs.list.Statement.{statement}
 use Rattle.listing.proofs.list.Tie as tie

@@ -3,7 +3,7 @@ use mathlib.Core.Path.{_≡_}
 use mathlib.Core.Logic.{_≢_}
 use native.Mathlib.Omega.{arith}
 use Rattle.meaning.specs.Calls.{Buffers}
-use Rattle.analysis.proofs.Theorems.{accepted-is, count-of-states, count-of-atoms, count-of-rounds, holds-states, holds-marks, holds-verdicts}
+use Rattle.analysis.proofs.Done.{accepted-is, count-of-states, count-of-atoms, count-of-rounds, holds-states, holds-marks, holds-verdicts}
 use Rattle.vectors.proofs.Standing.{refused-is}
 use borrow.Author.Needs.{needs}
 use Rattle.vectors.proofs.is_listing.Statement.{statement}

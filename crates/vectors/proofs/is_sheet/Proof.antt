@@ -3,9 +3,8 @@ use Prim.Native.Nat.{ℕ}
 use mathlib.Core.Path.{_≡_, sym, _∙_}
 use native.Mathlib.Omega.{arith}
 use lib.Seq.{length-take-le}
-use Rattle.meaning.specs.Calls.{Buffers}
 use Rattle.meaning.proofs.Lists.{T-of, same-eq}
-use Rattle.certificate.proofs.Theorems.{ours-is, ours-fits}
+use Rattle.meaning.proofs.Demand3.{ours-is, ours-fits}
 use borrow.Author.Needs.{needs}
 use Rattle.vectors.proofs.is_sheet.Statement.{statement}
 use Rattle.vectors.proofs.is_sheet.Tie as tie
@@ -35,19 +34,15 @@ slice-reshare-prefix-same : tie.Need-slice-reshare-prefix-same
 slice-reshare-prefix-same c =
     let x = c .before .before .before .before .before .before .before .before .before .before .before .before .before .before .before .before .before .before .before .before .before .before .before .before .before .before in
     let call = c .before .before .before .before .before .before .before .before .before .before .before .before .before .write in
-    let before : Buffers = record { states = x .args .states .now; tables = x .args .tables .now; marks = x .args .marks .now; verdicts = x .args .verdicts .now } in
-    let after : Buffers = record { states = call .last .1 .0; tables = call .last .1 .1 .0; marks = call .last .1 .1 .1 .0; verdicts = call .last .1 .1 .1 .1 .0 } in
     let z : call .result .answer .number ≡ 0 = omega arith in
-    ours-fits (x .args .file .now) before after (x .args .sheet .now) (call .last .1 .1 .1 .1 .1 .0) (call .result) (call .ensures) z
+    ours-fits (x .args .file .now) (call .ensures) z
 
 slice-aggregate-same : tie.Need-slice-aggregate-same
 slice-aggregate-same c =
     let x = c .before .before .before .before .before .before .before .before .before .before .before .before .before .before .before .before .before .before .before .before .before .before .before .before .before .before .before in
     let call = c .before .before .before .before .before .before .before .before .before .before .before .before .before .before .write in
-    let before : Buffers = record { states = x .args .states .now; tables = x .args .tables .now; marks = x .args .marks .now; verdicts = x .args .verdicts .now } in
-    let after : Buffers = record { states = call .last .1 .0; tables = call .last .1 .1 .0; marks = call .last .1 .1 .1 .0; verdicts = call .last .1 .1 .1 .1 .0 } in
     let z : call .result .answer .number ≡ 0 = omega arith in
-    sym (length-take-le (call .result .bytes) (call .last .1 .1 .1 .1 .1 .0) (ours-fits (x .args .file .now) before after (x .args .sheet .now) (call .last .1 .1 .1 .1 .1 .0) (call .result) (call .ensures) z))
+    sym (length-take-le (call .result .bytes) (call .last .1 .1 .1 .1 .1 .0) (ours-fits (x .args .file .now) (call .ensures) z))
 
 same-requires : tie.Need-same-requires
 same-requires c κs = search needs
@@ -71,10 +66,8 @@ returns-2 : tie.Need-returns-2
 returns-2 c =
     let x = c .before .before .before .before .before .before .before .before .before .before .before .before .before .before .before .before .before .before .before .before .before .before .before .before .before .before .before .before in
     let call = c .before .before .before .before .before .before .before .before .before .before .before .before .before .before .before .write in
-    let before : Buffers = record { states = x .args .states .now; tables = x .args .tables .now; marks = x .args .marks .now; verdicts = x .args .verdicts .now } in
-    let after : Buffers = record { states = call .last .1 .0; tables = call .last .1 .1 .0; marks = call .last .1 .1 .1 .0; verdicts = call .last .1 .1 .1 .1 .0 } in
     let z : call .result .answer .number ≡ 0 = omega arith in
-    λ e. (call .ensures .order, call .ensures .each, sym (same-eq _ _ (T-of _ (sym (c .same .ensures) ∙ e))) ∙ ours-is (x .args .file .now) before after (x .args .sheet .now) (call .last .1 .1 .1 .1 .1 .0) (call .result) (call .ensures) z)
+    λ e. (call .ensures .order, call .ensures .each, sym (same-eq _ _ (T-of _ (sym (c .same .ensures) ∙ e))) ∙ ours-is (x .args .file .now) (call .ensures) z)
 
 pub is-sheet-spec : {M : Type 1} → statement M
 is-sheet-spec =
