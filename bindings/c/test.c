@@ -5,6 +5,13 @@
 #include <stdio.h>
 #include <string.h>
 
+/* The prototypes once more: the compiler refuses a header that has others. */
+size_t rules_analyse(const uint8_t *, size_t, uint16_t *, size_t, uint8_t *, size_t, uint8_t *, size_t, uint8_t *, size_t,
+                     size_t *, size_t *, size_t *, size_t *);
+size_t rules_write(const uint8_t *, size_t, uint16_t *, size_t, uint8_t *, size_t, uint8_t *, size_t, uint8_t *, size_t,
+                   uint8_t *, size_t, size_t *, size_t *, size_t *, size_t *, size_t *);
+size_t rules_check(const uint8_t *, size_t, const uint8_t *, size_t, uint8_t *, size_t, uint8_t *, size_t, size_t *);
+
 enum call { ANALYSE, WRITE, CHECK };
 
 struct bytes { const uint8_t *at; size_t len; };
