@@ -4,8 +4,10 @@
  * allocates nothing, keeps nothing between calls, and calls no foreign function but memcpy and memset. It may be used by
  * several threads at once, each with buffers of its own.
  *
- * Stack. Give each call 256 kB of stack. How much a call needs was measured and is not proved. On a stack that is too
- * small a call faults: the program dies, and no number is handed back.
+ * Stack. Give each call 256 kB of stack. How much a call needs was measured, 205 kB at most, and is not proved. On a
+ * stack that is too small a call faults: the program dies, and no number is handed back. That takes a page without
+ * access below the stack, as systems put below the main thread's and, by default, below a POSIX thread's; without one,
+ * what lies below the stack is overwritten.
  *
  * Slices. A pair `x, x_len` is a slice: x_len elements that start at x. x must not be null, also where x_len is 0, must
  * be aligned for its type, and x_len counts elements, not bytes. `file` and, in rules_check, `sheet` are read and never
