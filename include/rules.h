@@ -2,14 +2,20 @@
  *
  * Link with libexports.a (`rt staticlib exports` writes target/staticlib/libexports.a, for x86-64 Linux). The library
  * allocates nothing, keeps nothing between calls, and calls no foreign function but memcpy and memset. It may be used by
- * several threads at once, each with buffers of its own. A call uses at most 256 kB of stack.
+ * several threads at once, each with buffers of its own.
+ *
+ * Stack. Give each call 256 kB of stack. How much a call needs was measured, 205 kB at most, and is not proved. On a
+ * stack that is too small a call faults: the program dies, and no number is handed back. That takes a page without
+ * access below the stack, as systems put below the main thread's and, by default, below a POSIX thread's; without one,
+ * what lies below the stack is overwritten.
  *
  * Slices. A pair `x, x_len` is a slice: x_len elements that start at x. x must not be null, also where x_len is 0, must
  * be aligned for its type, and x_len counts elements, not bytes. `file` and, in rules_check, `sheet` are read and never
  * written. No buffer may overlap another buffer, the file, the sheet that is checked, or one of the numbers that the
  * results are put into; nor may two of these numbers be the same. `file` and `sheet` may overlap each other.
  *
- * Answers. Each call hands back a number, and puts its place into *place; every count is 0 with a refusal.
+ * Answers. Each call hands back a number (enum rules_number), and puts its place into *place; every count is 0 with a
+ * refusal.
  *
  *   number  place            given when                                                       buffers after
  *   0       0                accepted                                                         filled
@@ -39,19 +45,48 @@
 #include <stddef.h>
 #include <stdint.h>
 
+/* The largest sizes, in elements. */
 #define RULES_MAX_STATES 16
-#define RULES_MAX_TABLES 6144
-#define RULES_MAX_MARKS 65536
+#define RULES_MAX_TABLES (24 * 16 * 16)              /* 6,144: 24 symbols of arity 2 */
+#define RULES_MAX_MARKS (16 * 16 * 16 * 16)          /* 65,536: 16 predicates of arity 3 */
 #define RULES_MAX_VERDICTS 32
-#define RULES_MAX_SHEET 458832
+#define RULES_MAX_SHEET (5 * RULES_MAX_STATES + 7 * RULES_MAX_MARKS) /* 458,832: 5 bytes a state, 7 an atom of arity 3 */
+
+/* The numbers that the calls hand back; the table above says when. rules_analyse hands back 0 to 9, rules_write these
+ * and 14, rules_check 0 to 13. */
+enum rules_number {
+    RULES_ACCEPTED = 0,
+    RULES_FILE_TOO_LONG = 1,
+    RULES_FIELD_CUT = 2,
+    RULES_WRONG_TAG = 3,
+    RULES_MALFORMED = 4,
+    RULES_NAME_TAKEN = 5,
+    RULES_TOO_MANY = 6,
+    RULES_NO_CONSTANT = 7,
+    RULES_TOO_MANY_STATES = 8,
+    RULES_BUFFER_TOO_SHORT = 9,
+    RULES_SHEET_MISPLACED = 10,
+    RULES_SHEET_STATES_DIFFER = 11,
+    RULES_SHEET_WRONG_ATOM = 12,
+    RULES_SHEET_NOT_CLOSED = 13,
+    RULES_SHEET_BUFFER_TOO_SHORT = 14
+};
+
+/* The verdict bytes. CLEAR: no ground instance of the query that meets the query's conditions is derivable, at any
+ * height of its terms. OPEN: some states that meet the conditions put the query's atom in the model; this does not claim
+ * that an instance is derivable. */
+enum rules_verdict {
+    RULES_CLEAR = 0,
+    RULES_OPEN = 1
+};
 
 #ifdef __cplusplus
 extern "C" {
 #endif
 
 /* Analyses a rule file. With 0: the states in rising order, bit t of each for type t; the table cells, symbol after
- * symbol; the marks, predicate after predicate, 1 for an atom of the model and 0 for any other; the verdicts, 1 OPEN and
- * 0 CLEAR; and the counts of states, of the model's atoms and of rounds. */
+ * symbol; the marks, predicate after predicate, 1 for an atom of the model and 0 for any other; the verdicts, RULES_OPEN
+ * or RULES_CLEAR; and the counts of states, of the model's atoms and of rounds. */
 size_t rules_analyse(const uint8_t *file, size_t file_len,
                      uint16_t *states, size_t states_len,
                      uint8_t *tables, size_t tables_len,
