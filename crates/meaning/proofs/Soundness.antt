@@ -2,6 +2,7 @@
 -- set has no derivable ground instance that meets its conditions. Assumes nothing.
 use Prim.Native.Nat.{ℕ, suc, _<_, suc-le-suc}
 use mathlib.Core.Path.{_≡_, refl, sym, ap, ap₂, subst, _∙_}
+use mathlib.Core.Logic.{_↔_}
 use mathlib.Core.List.{List, [], _∷_, List·Memᴰ}
 use native.Mathlib.Nat.{zero-lt-suc}
 use lib.Dec.{T}
@@ -12,7 +13,7 @@ use Rattle.meaning.specs.Legal.{Declared, WellTerm, WellTerms, WellAtom,
 use Rattle.meaning.specs.Types.{has, allowed, IsGround, AreGround}
 use Rattle.meaning.specs.Ground.{GroundSet, ground, grounds, GroundIn, IsSubstitution, GroundClosed, Derivable, GroundMeets, GroundMeetsAll, NoneDerivable}
 use Rattle.meaning.specs.Clauses.{AtomSet, IsValuation, termState, termStates, InstanceIn, Closed, meets, meetsAll, Open}
-use Rattle.meaning.proofs.Lists.{both-of, not-intro, All-find, All-give, length-table, getD-table, table-mem}
+use Rattle.meaning.proofs.Lists.{clash, both, both-of, not-intro, All-find, All-give, length-table, getD-table, table-mem}
 use Rattle.meaning.proofs.Setting.{eachState, Homomorphism}
 
 -- the valuation of a substitution: each variable has the state of its term
@@ -30,10 +31,10 @@ count-ground σ (t ▸ ts) = ap suc (count-ground σ ts)
 
 -- conditions from the second variable on are conditions under the substitution that starts there
 meets-shift : (productions : List Production) (cs : List Condition) (σ : ℕ → Tree) (i : ℕ)
-    → GroundMeetsAll productions cs σ (suc i)
-    → GroundMeetsAll productions cs (λ j. σ (suc j)) i
-meets-shift productions [] σ i h = tt
-meets-shift productions (c ∷ cs) σ i h = (h .0, meets-shift productions cs σ (suc i) (h .1))
+    → GroundMeetsAll productions cs σ (suc i) ↔ GroundMeetsAll productions cs (λ j. σ (suc j)) i
+meets-shift productions [] σ i = (λ h. tt, λ h. tt)
+meets-shift productions (c ∷ cs) σ i =
+    let later = meets-shift productions cs σ (suc i) in (λ h. (h .0, later .0 (h .1)), λ h. (h .0, later .1 (h .1)))
 
 -- a ground instance of a term is a ground term
 module _
@@ -126,23 +127,29 @@ module _
         pub derivable-in : (p : ℕ) (ts : Trees) → Derivable arities clauses p ts → S p (eachState st ts)
         derivable-in p ts derivable = derivable (abstraction st S) abstraction-closed
 
-    -- the valuation of a substitution meets the conditions that the substitution meets
-    meets-ground : (c : Condition) (t : Tree) → IsGround arities t → GroundMeets productions c t → T (meets sets c (st t))
-    meets-ground (isOf q) t g h = hom .exact t g q .1 h
-    meets-ground (notOf q) t g h = not-intro (has (getD sets (st t) 0) q) (λ k. h (hom .exact t g q .0 k))
-    meets-ground free t g h = tt
+    -- a ground term meets a condition exactly if its state does
+    pub meets-exact : (c : Condition) (t : Tree) → IsGround arities t → GroundMeets productions c t ↔ T (meets sets c (st t))
+    meets-exact (isOf q) t g = (hom .exact t g q .1, hom .exact t g q .0)
+    meets-exact (notOf q) t g = (
+      λ h. not-intro (has (getD sets (st t) 0) q) (λ k. h (hom .exact t g q .0 k)),
+      λ k h. clash (has (getD sets (st t) 0) q) (hom .exact t g q .1 h) k,
+    )
+    meets-exact free t g = (λ h. tt, λ k. tt)
 
-    pub meets-all-ground : (cs : List Condition) (σ : ℕ → Tree)
+    -- a substitution meets the conditions of a query exactly if its valuation does
+    pub meets-all-exact : (cs : List Condition) (σ : ℕ → Tree)
         → IsSubstitution arities (length cs) σ
-        → GroundMeetsAll productions cs σ 0
-        → T (meetsAll sets cs (valuation st (length cs) σ))
-    meets-all-ground [] σ given h = tt
-    meets-all-ground (c ∷ cs) σ given h =
-        both-of
-        (meets sets c (st (σ 0)))
-        (meetsAll sets cs (valuation st (length cs) (λ i. σ (suc i))))
-        (meets-ground c (σ 0) (given 0 (zero-lt-suc (length cs))) (h .0))
-        (meets-all-ground cs (λ i. σ (suc i)) (λ i lt. given (suc i) (suc-le-suc lt)) (meets-shift productions cs σ 0 (h .1)))
+        → GroundMeetsAll productions cs σ 0 ↔ T (meetsAll sets cs (valuation st (length cs) σ))
+    meets-all-exact [] σ given = (λ h. tt, λ t. tt)
+    meets-all-exact (c ∷ cs) σ given =
+        let first = meets-exact c (σ 0) (given 0 (zero-lt-suc (length cs))) in
+        let later = meets-all-exact cs (λ i. σ (suc i)) (λ i lt. given (suc i) (suc-le-suc lt)) in
+        let a = meets sets c (st (σ 0)) in
+        let b = meetsAll sets cs (valuation st (length cs) (λ i. σ (suc i))) in
+        let shift = meets-shift productions cs σ 0 in (
+          λ h. both-of a b (first .0 (h .0)) (later .0 (shift .0 (h .1))),
+          λ t. let w = both a b t in (first .1 (w .0), shift .1 (later .1 (w .1))),
+        )
 
     -- a query that is not OPEN in some closed set has no derivable ground instance that meets its conditions
     pub clear-sound : (types : ℕ) (clauses : List Clause)
@@ -158,7 +165,7 @@ module _
         clear (
           valuation st v σ,
           is-valuation v σ given,
-          meets-all-ground (q .conditions) σ given met,
+          meets-all-exact (q .conditions) σ given .0 met,
           instance-of-ground v σ given S (q .atom) (wq .2)
               (derivable-in clauses well S closed (q .atom .predicate) (grounds σ (q .atom .arguments)) derivable),
         )

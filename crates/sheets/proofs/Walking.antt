@@ -1,7 +1,7 @@
 -- The fields of a sheet one after the other: what holds after some of them are read and none passes a test, and what follows at each way
 -- out. Assumes nothing.
 use Prim.Native.Nat.{ℕ, _+_, _≤_, zero-le}
-use mathlib.Core.Path.{_≡_, refl, sym, ap, subst₂, _∙_}
+use mathlib.Core.Path.{_≡_, refl, sym, ap, subst, subst₂, _∙_}
 use mathlib.Core.Bool.{Bool, not}
 use mathlib.Core.List.{List, [], _∷_, _++_, append-nil, append-assoc}
 use mathlib.Core.Option.{none, some}
@@ -10,7 +10,7 @@ use lib.Dec.{T}
 use lib.ListN.{length, take, drop, length-append}
 use Rattle.meaning.specs.Fields.{Field, whole, cut, frontOf, onFront, fields, firstField}
 use Rattle.meaning.proofs.Fields.{fields-step, NoField, NoField-append, first-after, firstField-none}
-use Rattle.fields.specs.Found.{foundIn, contentIn}
+use Rattle.fields.specs.Found.{foundIn, contentIn, nextIn}
 use Rattle.fields.specs.declared.Found.{Found}
 use Rattle.fields.specs.declared.Found.the-variants.{End, Cut, Whole}
 use Rattle.fields.proofs.Fronts.{front-rest, front-inside, front-content, found-whole, found-cut, found-end}
@@ -30,6 +30,7 @@ walked-none test sheet = record { split = refl; count = refl; fine = tt; inside 
 pub record Stands (sheet : List ℕ) (at tag len : ℕ) : Type 0 where
   pub inside : at + 3 + len ≤ length sheet
   pub content-is : contentIn (frontOf (drop at sheet)) ≡ take len (drop (at + 3) sheet)
+  pub next-is : nextIn at (frontOf (drop at sheet)) ≡ at + 3 + len
   pub fields-are : fields (drop at sheet) ≡ whole tag (take len (drop (at + 3) sheet)) ∷ fields (drop (at + 3 + len) sheet)
 
 pub stands : (sheet : List ℕ) (at : ℕ) {f : Found} {tag len : ℕ} → f ≡ foundIn (frontOf (drop at sheet)) → f ≡ Whole tag len → Stands sheet at tag len
@@ -42,6 +43,7 @@ stands sheet at {f} {tag} {len} found is =
     record {
       inside = omega (arith, front-inside sheet at tag (w .0) (w .1) (w .2));
       content-is = ap contentIn (w .2) ∙ same;
+      next-is = ap (nextIn at) (w .2) ∙ next;
       fields-are =
           fields-step (drop at sheet)
           ∙ (ap (onFront fields) (w .2)
@@ -74,15 +76,18 @@ module _ {test : List Field → Field → Bool} {sheet : List ℕ} {at k : ℕ} 
     walk-stop t = stop (whole tag (take len (drop (at + 3) sheet))) (fields (drop (at + 3 + len) sheet)) (s .fields-are) t
 
     -- one field more
-    pub walk-on : T (not (test done (whole tag (take len (drop (at + 3) sheet)))))
-        → Walked test sheet (at + 3 + len) (k + 1) (done ++ (whole tag (take len (drop (at + 3) sheet)) ∷ []))
-    walk-on t =
+    pub walk-on : {next : ℕ}
+        → next ≡ nextIn at (frontOf (drop at sheet))
+        → T (not (test done (whole tag (take len (drop (at + 3) sheet)))))
+        → Walked test sheet next (k + 1) (done ++ (whole tag (take len (drop (at + 3) sheet)) ∷ []))
+    walk-on {next} moved t =
         let f = whole tag (take len (drop (at + 3) sheet)) in
         let later = fields (drop (at + 3 + len) sheet) in
-        record {
+        subst (λ (n : ℕ). Walked test sheet n (k + 1) (done ++ (f ∷ []))) (sym (moved ∙ s .next-is))
+        (record {
           split = w .split ∙ (ap (λ (l : List Field). done ++ l) (s .fields-are) ∙ sym (append-assoc done (f ∷ []) later));
           count = length-append done (f ∷ []) ∙ ap (λ (n : ℕ). n + 1) (w .count);
           fine = NoField-append test [] done (f ∷ []) .1 (w .fine, (t, tt));
           inside = s .inside;
           few = omega (arith, w .few);
-        }
+        })

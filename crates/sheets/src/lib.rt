@@ -55,13 +55,13 @@ pub fn first_misplaced(sheet: &[u8], preds: &[u8]) -> Fault
     let mut atoms = false;
     loop {
         match reader::field_of(sheet, at) {
-            Found::Whole(tag, len) => {
+            Found::Whole(tag, _) => {
                 if is_misplaced(tag, reader::content_of(sheet, at), preds, atoms) {
                     return Fault::At(k);
                 }
                 // no atom's field stands before a state's
                 atoms = tag == 17;
-                at = at + 3 + len;
+                at = reader::next_of(sheet, at);
                 k += 1;
             }
             Found::Cut => return Fault::At(k),

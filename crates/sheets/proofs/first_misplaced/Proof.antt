@@ -53,23 +53,24 @@ is-misplaced-requires c κs = search needs
 returns : tie.Need-returns Inv-loop μ-loop
 returns c = ap faultAt (sym (walk-stop (c .before .before .before .before .before .before .before .loop .inv .1) (stand (c .before .before .before)) (T-of _ (sym (said (c .before)) ∙ c .if1 .taken))))
 
-add-at : tie.Need-add-at Inv-loop μ-loop
-add-at c = omega (arith, stand (c .before .before .before) .inside)
+next-of-requires : tie.Need-next-of-requires Inv-loop μ-loop
+next-of-requires c κs = search needs
 
-add-at-2 : tie.Need-add-at-2 Inv-loop μ-loop
-add-at-2 c = omega (arith, stand (c .before .before .before) .inside)
+-- where the next field starts
+moved : (c : tie.After-next-of Inv-loop μ-loop) → c .next-of .result ≡ c .before .before .before .before .before .before .before .before .loop .at + 3 + c .before .before .before .before .before .tag .given .0 .1 .0
+moved c = c .next-of .ensures ∙ stand (c .before .before .before .before) .next-is
 
 add-k : tie.Need-add-k Inv-loop μ-loop
-add-k c = omega (arith, stand (c .before .before .before) .inside, c .before .before .before .before .before .before .before .loop .inv .1 .few)
+add-k c = omega (arith, stand (c .before .before .before .before) .inside, c .before .before .before .before .before .before .before .before .loop .inv .1 .few)
 
 loop-less : tie.Need-loop-less Inv-loop μ-loop
-loop-less c = omega (arith, stand (c .before .before .before) .inside)
+loop-less c = omega (arith, moved c, stand (c .before .before .before .before) .inside)
 
 loop-again : tie.Need-loop-again Inv-loop μ-loop
 loop-again c =
-    let l = c .before .before .before .before .before .before .before .loop in
-    let fine = T-not-of _ (sym (said (c .before)) ∙ c .if1 .left) in
-    (_, walk-on (l .inv .1) (stand (c .before .before .before)) fine, seen-next (c .before .before .before .before .before .before .before .before .before .before .args .preds .now) (l .inv .0) (c .before .before .before .before .tag .given .0 .0) _ fine)
+    let l = c .before .before .before .before .before .before .before .before .loop in
+    let fine = T-not-of _ (sym (said (c .before .before)) ∙ c .before .if1 .left) in
+    (_, walk-on (l .inv .1) (stand (c .before .before .before .before)) (c .next-of .ensures) fine, seen-next (c .before .before .before .before .before .before .before .before .before .before .before .args .preds .now) (l .inv .0) (c .before .before .before .before .before .tag .given .0 .0) _ fine)
 
 enum-told : tie.Need-enum-told Inv-loop μ-loop
 enum-told c = search needs
@@ -95,8 +96,7 @@ first-misplaced-spec =
     content-of-requires
     is-misplaced-requires
     returns
-    add-at
-    add-at-2
+    next-of-requires
     add-k
     loop-less
     loop-again
