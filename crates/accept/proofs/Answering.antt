@@ -1,5 +1,5 @@
 -- The answer to a file by the answer to reading it and the number of its states. Assumes nothing.
-use Prim.Native.Nat.{ℕ, _≤_, _<_}
+use Prim.Native.Nat.{ℕ}
 use mathlib.Core.Path.{_≡_, refl, sym, ap, _∙_}
 use mathlib.Core.Logic.{_≢_}
 use mathlib.Core.Bool.{cond}
@@ -7,14 +7,13 @@ use mathlib.Core.List.{List, []}
 use native.Mathlib.Omega.{arith}
 use lib.Dec.{ltb}
 use lib.ListN.{length}
-use borrow.Author.Tests.{ne-eqb, lt-ltb, le-ltb}
+use borrow.Author.Tests.{ne-eqb}
 use Rattle.meaning.specs.Limits.{mostStates}
 use Rattle.meaning.specs.Fields.{fields}
-use Rattle.meaning.specs.Refusals.{Answer, refused, accepted, ok}
+use Rattle.meaning.specs.Refusals.{Answer, refuseIf, accepted, ok}
 use Rattle.meaning.specs.Files.{readAnswer, fileAnswer}
 use Rattle.meaning.specs.Calls.{statesOf, symbolArities}
-use Rattle.meaning.proofs.Lists.{T-of, T-not-of}
-use Rattle.meaning.proofs.Answers.{then-next, then-first, if-yes, if-no}
+use Rattle.meaning.proofs.Answers.{then-next, then-first}
 use Rattle.refusals.specs.declared.Refusal.{Refusal}
 use Rattle.refusals.specs.declared.Refusal.the-variants.{None, TooLong, Cut, WrongTag, Malformed, NameTaken, TooMany, NoConstant}
 use Rattle.refusals.specs.Refusal.{answerOf}
@@ -47,14 +46,6 @@ module _ (file : List ℕ) where
   unfolding statesGiven
   read-states e = sym (ap (λ (a : Answer). cond (ok a) (packed (statesOf file)) (packed [])) e)
 
-  pub few-answer : readAnswer file ≡ accepted → length (statesOf file) ≤ mostStates → fileAnswer file ≡ accepted
+  pub read-answer : readAnswer file ≡ accepted → fileAnswer file ≡ refuseIf (ltb mostStates (length (statesOf file))) 8 (length (fields file))
   unfolding fileAnswer statesOf symbolArities
-  few-answer e h =
-      then-next (readAnswer file) _ (ap (λ (a : Answer). a .number) e)
-      ∙ if-no (ltb mostStates (length (statesOf file))) 8 (length (fields file)) (T-not-of _ (le-ltb mostStates (length (statesOf file)) h))
-
-  pub many-answer : readAnswer file ≡ accepted → mostStates < length (statesOf file) → fileAnswer file ≡ refused 8 (length (fields file))
-  unfolding fileAnswer statesOf symbolArities
-  many-answer e h =
-      then-next (readAnswer file) _ (ap (λ (a : Answer). a .number) e)
-      ∙ if-yes (ltb mostStates (length (statesOf file))) 8 (length (fields file)) (T-of _ (lt-ltb mostStates (length (statesOf file)) h))
+  read-answer e = then-next (readAnswer file) _ (ap (λ (a : Answer). a .number) e)

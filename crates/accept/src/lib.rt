@@ -5,14 +5,16 @@ use states::Count;
 use states::States;
 ghost use mathlib.Core.Path.{_≡_};
 ghost use mathlib.Core.List.{[]};
-ghost use Prim.Native.Nat.{_≤_, _<_};
+ghost use Prim.Native.Nat.{ℕ, _≤_, _<_};
+ghost use lib.Dec.{ltb};
 ghost use lib.ListN.{length};
-ghost use Rattle.meaning.specs.Refusals.{accepted, refused};
+ghost use Rattle.meaning.specs.Limits.{mostStates};
+ghost use Rattle.meaning.specs.Refusals.{accepted, refused, refuseIf};
 ghost use Rattle.meaning.specs.Files.{readAnswer, fileAnswer};
 ghost use Rattle.meaning.specs.Calls.{statesOf, tablesOf, written};
 ghost use Rattle.refusals.specs.Known.{Knows, fieldsRead};
 ghost use Rattle.refusals.specs.Refusal.{answerOf};
-ghost use Rattle.states.specs.Packed.{packed};
+ghost use Rattle.states.specs.Packed.{packed, countAnswer};
 ghost use Rattle.accept.specs.Accepted.{answered, fieldsKnown, statesGiven};
 
 // A number with its place: 0 at 0 where nothing is refused.
@@ -66,6 +68,16 @@ fn answer_of(v: Refusal) -> Answer
     }
 }
 
+// The number and place of a count of states, for a file of so many fields.
+fn count_answer(count: Count, fields: usize) -> Answer
+    ensures { λ r. ⌜ answered r ≡ countAnswer fields count ⌝ }
+{
+    match count {
+        Count::Known(_) => no_refusal(),
+        Count::TooMany => refusal(8, fields),
+    }
+}
+
 // How many fields were read.
 fn field_count(known: Known) -> usize
     ensures { λ r. ⌜ r ≡ fieldsKnown known ⌝ }
@@ -86,7 +98,8 @@ fn no_states() -> States
 // The states of a file that was read.
 fn states_of(file: &[u8], known: Known) -> States
     requires { ⌜ (readAnswer (now file) ≡ accepted) × Knows known (fieldsRead (now file)) ⌝ }
-    ensures { λ r. ⌜ r ≡ packed (statesOf (now (file .entry))) ⌝ }
+    ensures states { λ r. ⌜ r ≡ packed (statesOf (now (file .entry))) ⌝ }
+    ensures eight { λ r. ⌜ ((k : ℕ) → countAnswer k (r .count) ≡ refuseIf (ltb mostStates (length (statesOf (now (file .entry))))) 8 k) ⌝ }
 {
     let counts = known.counts;
     let starts = known.starts;
@@ -113,20 +126,11 @@ pub fn accept(file: &[u8]) -> Acceptance
     }
     let states = states_of(file, known);
     let count = states.count;
-    match count {
-        Count::Known(_) => Acceptance {
-            answer,
-            known,
-            states,
-        },
-        Count::TooMany => {
-            let answer = refusal(8, field_count(known));
-            Acceptance {
-                answer,
-                known,
-                states,
-            }
-        }
+    let answer = count_answer(count, field_count(known));
+    Acceptance {
+        answer,
+        known,
+        states,
     }
 }
 

@@ -9,7 +9,7 @@ use Rattle.meaning.specs.Files.{fileAnswer}
 use Rattle.meaning.specs.Calls.{statesOf, modelOf, roundsOf, atomsOf, verdictsOf, written, Buffers, Analysed, analysisDone, analysed}
 use Rattle.meaning.proofs.Demand1.{demand-1, accepted-analysis}
 use Rattle.analysis.specs.declared.Analysis.{Analysis}
-use Rattle.analysis.specs.Given.{given}
+use Rattle.analysis.specs.Given.{given, Filled}
 use Rattle.results.proofs.Fronts.{written-again}
 
 module _ (file : List ℕ) (before after : Buffers) (r : Analysis) (is : given r after ≡ analysed file before) (z : r .answer .number ≡ 0) where
@@ -40,3 +40,11 @@ module _ (file : List ℕ) (before after : Buffers) (r : Analysis) (is : given r
 
   pub holds-verdicts : after .verdicts ≡ written (verdictsOf file) (after .verdicts)
   holds-verdicts = again (verdictsOf file) (before .verdicts) (ap (λ (a : Analysed). a .after .verdicts) done-is)
+
+  -- the buffers and counts, as a listing is made from them
+  pub filled-is : Filled file (r .states) (after .states) (after .marks) (after .verdicts) × (r .atoms ≡ length (atomsOf file)) × (r .rounds ≡ roundsOf file)
+  filled-is = (
+    record { answer = accepted-is; count = count-of-states; statesAre = holds-states; marksAre = holds-marks; verdictsAre = holds-verdicts },
+    count-of-atoms,
+    count-of-rounds,
+  )

@@ -24,9 +24,10 @@ use Rattle.meaning.proofs.Sets.{has-nothing, has-setOf, setOf-lt, set-ext}
 use Rattle.meaning.proofs.Cells.{cell-lt, row-of-cell, place-lt, place-inj, place-onto}
 use Rattle.fields.specs.Found.{contentsFrom}
 use Rattle.cells.proofs.Rows.{cellFrom, from-zero}
-use Rattle.automaton.specs.Sets.{givenSets}
-use Rattle.automaton.specs.Marking.{addedAt, markProduction, markAll, AreProductions, Fillable}
-use Rattle.automaton.proofs.Marking.{cleared, length-cleared, length-addedAt, added-has, added-keeps, added-fits, drop-addedAt, mark-keeps, mark-gives}
+use Rattle.automaton.specs.Sets.{added, givenSets}
+use Rattle.automaton.specs.Marking.{joinedAt, markProduction, markAll, AreProductions, Fillable}
+use Rattle.automaton.proofs.Marking.{cleared, length-cleared, length-joinedAt, joined-has, joined-keeps, joined-fits, drop-joinedAt, mark-keeps, mark-gives}
+use Rattle.automaton.proofs.Members.{one-has, one-own, added-lt}
 use Rattle.automaton.proofs.Turns.{length-markProduction, markFrom, from-none}
 
 -- the given sets, by place
@@ -97,15 +98,15 @@ module _ (states arities : List ℕ) where
     pub type-is : t ≡ p .target
     pub place-is : j ≡ place (length states) arities (p .symbol) row
 
-  -- a production keeps what adding a type that it gives keeps
+  -- a production keeps what joining the set of its target keeps
   production-keeps : (P : List ℕ → Type 0) (p : Production)
-      → ((j : ℕ) (l : List ℕ) → Gives p j (p .target) → P l → P (addedAt l j (p .target)))
+      → ((j : ℕ) (l : List ℕ) → Gives p j (p .target) → P l → P (joinedAt l j (added 0 (p .target))))
       → (sets : List ℕ)
       → P sets
       → P (markProduction states arities p sets)
   unfolding markProduction
   production-keeps P p h sets q =
-      mark-keeps states (start (length states) arities (p .symbol)) (p .target) P (p .arguments) 0
+      mark-keeps states (start (length states) arities (p .symbol)) (added 0 (p .target)) P (p .arguments) 0
       (λ row l range fit r.
       h (start (length states) arities (p .symbol) + cellFrom (length states) 0 row) l
       (record { row = row; range = range; fit = fit; type-is = refl; place-is = ap (λ (k : ℕ). start (length states) arities (p .symbol) + k) (from-zero (length states) row) })
@@ -113,7 +114,7 @@ module _ (states arities : List ℕ) where
       sets q
 
   all-keep : (P : List ℕ → Type 0) (ps : List Production)
-      → ((p : Production) → List·Memᴰ p ps → (j : ℕ) (l : List ℕ) → Gives p j (p .target) → P l → P (addedAt l j (p .target)))
+      → ((p : Production) → List·Memᴰ p ps → (j : ℕ) (l : List ℕ) → Gives p j (p .target) → P l → P (joinedAt l j (added 0 (p .target))))
       → (sets : List ℕ)
       → P sets
       → P (markAll states arities ps sets)
@@ -123,7 +124,7 @@ module _ (states arities : List ℕ) where
 
   length-markAll : (ps : List Production) (sets : List ℕ) → length (markAll states arities ps sets) ≡ length sets
   length-markAll ps sets =
-      all-keep (λ l. length l ≡ length sets) ps (λ p at j l gives e. length-addedAt l j (p .target) ∙ e) sets refl
+      all-keep (λ l. length l ≡ length sets) ps (λ p at j l gives e. length-joinedAt l j (added 0 (p .target)) ∙ e) sets refl
 
   -- what is in a set afterwards was there, or a production gives it
   all-has : (ps : List Production) (sets : List ℕ) (j t : ℕ)
@@ -133,13 +134,13 @@ module _ (states arities : List ℕ) where
       all-keep (λ l. T (has (getD l j 0) t) → T (has (getD sets j 0) t) ⊎ ((p : Production) × List·Memᴰ p ps × Gives p j t)) ps
       (λ p at k l gives before h.
       ⊎-elim before
-      (λ w. inr (p, at, record { row = gives .row; range = gives .range; fit = gives .fit; type-is = w .0; place-is = w .1 ∙ gives .place-is }))
-      (added-has l k (p .target) j t h))
+      (λ w. inr (p, at, record { row = gives .row; range = gives .range; fit = gives .fit; type-is = one-has (p .target) t (w .0); place-is = w .1 ∙ gives .place-is }))
+      (joined-has l k (added 0 (p .target)) j t h))
       sets (λ h. inl h)
 
   -- what a production gives is in the set afterwards
   all-holds : (ps : List Production) (sets : List ℕ) (j t : ℕ) → T (has (getD sets j 0) t) → T (has (getD (markAll states arities ps sets) j 0) t)
-  all-holds ps sets j t h = all-keep (λ l. T (has (getD l j 0) t)) ps (λ p at k l gives q. added-keeps l k (p .target) j t q) sets h
+  all-holds ps sets j t h = all-keep (λ l. T (has (getD l j 0) t)) ps (λ p at k l gives q. joined-keeps l k (added 0 (p .target)) j t q) sets h
 
   all-give : (ps : List Production) (sets : List ℕ) (j t : ℕ) (p : Production)
       → List·Memᴰ p ps
@@ -151,7 +152,7 @@ module _ (states arities : List ℕ) where
       all-holds qs (markProduction states arities q sets) j t
       (subst (λ (r : Production). T (has (getD (markProduction states arities r sets) j 0) t)) e
       (subst₂ (λ (k u : ℕ). T (has (getD (markProduction states arities p sets) k 0) u)) (sym at) (sym (gives .type-is))
-      (mark-gives states base (p .target) (p .arguments) (gives .row) 0 sets (gives .range) (gives .fit) (subst (λ (k : ℕ). k < length sets) at lt))))
+      (mark-gives states base (added 0 (p .target)) (p .target) (one-own (p .target)) (p .arguments) (gives .row) 0 sets (gives .range) (gives .fit) (subst (λ (k : ℕ). k < length sets) at lt))))
     where
       base : ℕ
       base = start (length states) arities (p .symbol)
@@ -173,7 +174,7 @@ module _ (states arities : List ℕ) where
     drop-markAll sets =
         all-keep (λ l. drop (cells (length states) arities) l ≡ drop (cells (length states) arities) sets) ps
         (λ p at j l gives e.
-        drop-addedAt l j (p .target) (cells (length states) arities)
+        drop-joinedAt l j (added 0 (p .target)) (cells (length states) arities)
         (subst (λ (k : ℕ). k < cells (length states) arities) (sym (gives .place-is))
         (place-lt (length states) arities (p .symbol) (gives .row) (gives-atom p at j (p .target) gives)))
         ∙ e)
@@ -182,7 +183,7 @@ module _ (states arities : List ℕ) where
     all-fit : (sets : List ℕ) (j : ℕ) → getD sets j 0 < 2 ^ 16 → getD (markAll states arities ps sets) j 0 < 2 ^ 16
     all-fit sets j h =
         all-keep (λ l. getD l j 0 < 2 ^ 16) ps
-        (λ p at k l gives lt. added-fits l k (p .target) j (lt-of-lt-of-le (All-find (WellProduction types arities) ps well p at .0) low) lt)
+        (λ p at k l gives lt. joined-fits l k (added 0 (p .target)) j (added-lt 0 (p .target) (pow-pos 16) (lt-of-lt-of-le (All-find (WellProduction types arities) ps well p at .0) low)) lt)
         sets h
 
     module _ (sets : List ℕ) (room : cells (length states) arities ≤ length sets) where

@@ -8,18 +8,17 @@ use native.Mathlib.Nat.{lt-suc-self, le-step, eq-or-lt-of-le, le-of-suc-le-suc, 
 use native.Mathlib.Numerals.{add-one}
 use native.Mathlib.Omega.{arith}
 use native.Mathlib.Decide.{decLt, ℕ-discrete}
-use lib.Dec.{T, eqb, eqb→eq, eqb-refl}
+use lib.Dec.{T}
+use lib.Bits.{bitOr, or-lt}
 use lib.ListN.{length, getD, drop, set, replicate, length-set, length-append, length-replicate, length-drop, drop-of-length-le}
 use lib.Seq.{drop-cons, getD-set-same, getD-set-other, set-out, drop-set-lt}
 use Rattle.meaning.specs.Lists.{All}
 use Rattle.meaning.specs.Types.{has, fits}
 use Rattle.meaning.specs.States.{setsAt}
+use Rattle.meaning.proofs.Bits.{has-either}
 use Rattle.meaning.proofs.Lists.{T-true, both, both-of, either, left-of, right-of}
 use Rattle.cells.proofs.Rows.{cellFrom, from-nil, from-cons}
-use Rattle.automaton.specs.Sets.{added}
-use Rattle.automaton.specs.Marking.{addedAt, inTurn, markRows, Markable}
-use Rattle.automaton.proofs.Members.{added-lt}
-use Rattle.meaning.proofs.Bits.{has-with}
+use Rattle.automaton.specs.Marking.{joinedAt, inTurn, markRows, Markable}
 
 -- the first n sets emptied
 unfoldable pub cleared : List ℕ → ℕ → List ℕ
@@ -39,56 +38,56 @@ cleared-next sets n h = rw (add-one n) (go sets n h)
     go (x ∷ l) zero h = refl
     go (x ∷ l) (suc n) h = ap (λ (k : List ℕ). 0 ∷ k) (go l n (le-of-suc-le-suc h))
 
--- after adding, a set is as it was, or it is at the place and has the type added
-pub added-cases : (P : ℕ → Type 0) (sets : List ℕ) (place type j : ℕ)
+-- after joining, a set is as it was, or it is at the place and has the other's types too
+pub joined-cases : (P : ℕ → Type 0) (sets : List ℕ) (place more j : ℕ)
     → P (getD sets j 0)
-    → (j ≡ place → P (added (getD sets j 0) type))
-    → P (getD (addedAt sets place type) j 0)
-unfolding addedAt
-added-cases P sets place type j same more = go (ℕ-discrete j place) (decLt place (length sets))
+    → (j ≡ place → P (bitOr (getD sets j 0) more))
+    → P (getD (joinedAt sets place more) j 0)
+unfolding joinedAt
+joined-cases P sets place more j same with-more = go (ℕ-discrete j place) (decLt place (length sets))
   where
-    go : Dec (j ≡ place) → Dec (place < length sets) → P (getD (addedAt sets place type) j 0)
-    go (no ne) in? = subst P (sym (getD-set-other sets place j (added (getD sets place 0) type) 0 ne)) same
+    go : Dec (j ≡ place) → Dec (place < length sets) → P (getD (joinedAt sets place more) j 0)
+    go (no ne) in? = subst P (sym (getD-set-other sets place j (bitOr (getD sets place 0) more) 0 ne)) same
     go (yes e) (yes lt) =
-        subst (λ (k : ℕ). P (getD (addedAt sets place type) k 0)) (sym e)
-        (subst P (sym (getD-set-same sets place (added (getD sets place 0) type) 0 lt)) (subst (λ (k : ℕ). P (added (getD sets k 0) type)) e (more e)))
-    go (yes e) (no ge) = subst (λ (l : List ℕ). P (getD l j 0)) (sym (set-out sets place (added (getD sets place 0) type) (omega arith))) same
+        subst (λ (k : ℕ). P (getD (joinedAt sets place more) k 0)) (sym e)
+        (subst P (sym (getD-set-same sets place (bitOr (getD sets place 0) more) 0 lt)) (subst (λ (k : ℕ). P (bitOr (getD sets k 0) more)) e (with-more e)))
+    go (yes e) (no ge) = subst (λ (l : List ℕ). P (getD l j 0)) (sym (set-out sets place (bitOr (getD sets place 0) more) (omega arith))) same
 
--- so the set at another place, or another type, stays as it is
-pub added-has : (sets : List ℕ) (place type j t : ℕ)
-    → T (has (getD (addedAt sets place type) j 0) t)
-    → T (has (getD sets j 0) t) ⊎ ((t ≡ type) × (j ≡ place))
-added-has sets place type j t =
-    added-cases (λ s. T (has s t) → T (has (getD sets j 0) t) ⊎ ((t ≡ type) × (j ≡ place))) sets place type j (λ h. inl h)
+-- so the set at another place stays as it is, and no type comes but those of the other set
+pub joined-has : (sets : List ℕ) (place more j t : ℕ)
+    → T (has (getD (joinedAt sets place more) j 0) t)
+    → T (has (getD sets j 0) t) ⊎ (T (has more t) × (j ≡ place))
+joined-has sets place more j t =
+    joined-cases (λ s. T (has s t) → T (has (getD sets j 0) t) ⊎ (T (has more t) × (j ≡ place))) sets place more j (λ h. inl h)
     (λ e h.
     ⊎-elim
-    (λ k. inr (eqb→eq t type k, e))
     (λ k. inl k)
-    (either (eqb t type) (has (getD sets j 0) t) (subst T (has-with (getD sets j 0) type t) h)))
+    (λ k. inr (k, e))
+    (either (has (getD sets j 0) t) (has more t) (subst T (has-either (getD sets j 0) more t) h)))
 
-pub added-keeps : (sets : List ℕ) (place type j t : ℕ) → T (has (getD sets j 0) t) → T (has (getD (addedAt sets place type) j 0) t)
-added-keeps sets place type j t h =
-    added-cases (λ s. T (has s t)) sets place type j h
-    (λ e. subst T (sym (has-with (getD sets j 0) type t)) (right-of (eqb t type) (has (getD sets j 0) t) h))
+pub joined-keeps : (sets : List ℕ) (place more j t : ℕ) → T (has (getD sets j 0) t) → T (has (getD (joinedAt sets place more) j 0) t)
+joined-keeps sets place more j t h =
+    joined-cases (λ s. T (has s t)) sets place more j h
+    (λ e. subst T (sym (has-either (getD sets j 0) more t)) (left-of (has (getD sets j 0) t) (has more t) h))
 
-pub added-gives : (sets : List ℕ) (place type : ℕ) → place < length sets → T (has (getD (addedAt sets place type) place 0) type)
-unfolding addedAt
-added-gives sets place type lt =
-    subst (λ (s : ℕ). T (has s type)) (sym (getD-set-same sets place (added (getD sets place 0) type) 0 lt))
-    (subst T (sym (has-with (getD sets place 0) type type)) (left-of (eqb type type) (has (getD sets place 0) type) (eqb-refl type)))
+pub joined-gives : (sets : List ℕ) (place more t : ℕ) → T (has more t) → place < length sets → T (has (getD (joinedAt sets place more) place 0) t)
+unfolding joinedAt
+joined-gives sets place more t h lt =
+    subst (λ (s : ℕ). T (has s t)) (sym (getD-set-same sets place (bitOr (getD sets place 0) more) 0 lt))
+    (subst T (sym (has-either (getD sets place 0) more t)) (right-of (has (getD sets place 0) t) (has more t) h))
 
 -- and it stays a number of 16 bits
-pub added-fits : (sets : List ℕ) (place type j : ℕ) → type < 16 → getD sets j 0 < 2 ^ 16 → getD (addedAt sets place type) j 0 < 2 ^ 16
-added-fits sets place type j low h = added-cases (λ s. s < 2 ^ 16) sets place type j h (λ e. added-lt (getD sets j 0) type h low)
+pub joined-fits : (sets : List ℕ) (place more j : ℕ) → more < 2 ^ 16 → getD sets j 0 < 2 ^ 16 → getD (joinedAt sets place more) j 0 < 2 ^ 16
+joined-fits sets place more j low h = joined-cases (λ s. s < 2 ^ 16) sets place more j h (λ e. or-lt 16 (getD sets j 0) more h low)
 
--- adding keeps the length, and what lies behind
-pub length-addedAt : (sets : List ℕ) (place type : ℕ) → length (addedAt sets place type) ≡ length sets
-unfolding addedAt
-length-addedAt sets place type = simp length-set
+-- joining keeps the length, and what lies behind
+pub length-joinedAt : (sets : List ℕ) (place more : ℕ) → length (joinedAt sets place more) ≡ length sets
+unfolding joinedAt
+length-joinedAt sets place more = simp length-set
 
-pub drop-addedAt : (sets : List ℕ) (place type n : ℕ) → place < n → drop n (addedAt sets place type) ≡ drop n sets
-unfolding addedAt
-drop-addedAt sets place type n lt = drop-set-lt n sets place (added (getD sets place 0) type) lt
+pub drop-joinedAt : (sets : List ℕ) (place more n : ℕ) → place < n → drop n (joinedAt sets place more) ≡ drop n sets
+unfolding joinedAt
+drop-joinedAt sets place more n lt = drop-set-lt n sets place (bitOr (getD sets place 0) more) lt
 
 -- what each step keeps is kept by all of them
 in-turn-keeps : (P : List ℕ → Type 0) (n : ℕ) (f : ℕ → List ℕ → List ℕ)
@@ -123,20 +122,20 @@ by-test : (P : List ℕ → Type 0) (b : Bool) (l l′ : List ℕ) → P l → (
 by-test P true l l′ p h = h tt
 by-test P false l l′ p h = p
 
-module _ (states : List ℕ) (base type : ℕ) where
+module _ (states : List ℕ) (base more : ℕ) where
   -- no argument is left
   pub mark-end : (content : List ℕ) (i cell : ℕ) (sets : List ℕ) {s : ℕ}
       → length content ≤ i
-      → s ≡ added (getD sets (base + cell) 0) type
-      → set sets (base + cell) s ≡ markRows states base type (drop i content) cell sets
-  unfolding markRows addedAt
+      → s ≡ bitOr (getD sets (base + cell) 0) more
+      → set sets (base + cell) s ≡ markRows states base more (drop i content) cell sets
+  unfolding markRows joinedAt
   mark-end content i cell sets h e =
-      ap (set sets (base + cell)) e ∙ sym (ap (λ (l : List ℕ). markRows states base type l cell sets) (drop-of-length-le content h))
+      ap (set sets (base + cell)) e ∙ sym (ap (λ (l : List ℕ). markRows states base more l cell sets) (drop-of-length-le content h))
 
   -- the sets after the rows whose next state is below d
   unfoldable pub markTo : ℕ → List ℕ → ℕ → List ℕ → ℕ → List ℕ
   markTo t arguments cell sets d =
-      inTurn d (λ d l. cond (has (getD states d 0) t) (markRows states base type arguments (cell * length states + d) l) l) sets
+      inTurn d (λ d l. cond (has (getD states d 0) t) (markRows states base more arguments (cell * length states + d) l) l) sets
 
   module _ (t : ℕ) (arguments : List ℕ) (cell : ℕ) (sets : List ℕ) where
     pub to-zero : sets ≡ markTo t arguments cell sets 0
@@ -145,16 +144,16 @@ module _ (states : List ℕ) (base type : ℕ) where
 
     to-next : (d : ℕ) (b : Bool)
         → has (getD states d 0) t ≡ b
-        → cond b (markRows states base type arguments (cell * length states + d) (markTo t arguments cell sets d)) (markTo t arguments cell sets d) ≡ markTo t arguments cell sets (d + 1)
+        → cond b (markRows states base more arguments (cell * length states + d) (markTo t arguments cell sets d)) (markTo t arguments cell sets d) ≡ markTo t arguments cell sets (d + 1)
     unfolding markTo
-    to-next d b e = rw (add-one d) (ap (λ (c : Bool). cond c (markRows states base type arguments (cell * length states + d) (markTo t arguments cell sets d)) (markTo t arguments cell sets d)) (sym e))
+    to-next d b e = rw (add-one d) (ap (λ (c : Bool). cond c (markRows states base more arguments (cell * length states + d) (markTo t arguments cell sets d)) (markTo t arguments cell sets d)) (sym e))
 
     pub to-more : (d : ℕ) {l : List ℕ} {b : Bool}
         → b ≡ has (getD states d 0) t
         → b ≡ true
         → l ≡ markTo t arguments cell sets d
-        → markRows states base type arguments (cell * length states + d) l ≡ markTo t arguments cell sets (d + 1)
-    to-more d {l} e h k = ap (markRows states base type arguments (cell * length states + d)) k ∙ to-next d true (sym e ∙ h)
+        → markRows states base more arguments (cell * length states + d) l ≡ markTo t arguments cell sets (d + 1)
+    to-more d {l} e h k = ap (markRows states base more arguments (cell * length states + d)) k ∙ to-next d true (sym e ∙ h)
 
     pub to-same : (d : ℕ) {l : List ℕ} {b : Bool}
         → b ≡ has (getD states d 0) t
@@ -166,19 +165,19 @@ module _ (states : List ℕ) (base type : ℕ) where
   pub to-all : (content : List ℕ) (i cell : ℕ) (sets : List ℕ) (d : ℕ)
       → i < length content
       → d ≡ length states
-      → markTo (getD content i 0) (drop (i + 1) content) cell sets d ≡ markRows states base type (drop i content) cell sets
+      → markTo (getD content i 0) (drop (i + 1) content) cell sets d ≡ markRows states base more (drop i content) cell sets
   unfolding markTo markRows
   to-all content i cell sets d h e =
-      rw (add-one i, e) (ap (λ (l : List ℕ). markRows states base type l cell sets) (sym (drop-cons content i 0 h)))
+      rw (add-one i, e) (ap (λ (l : List ℕ). markRows states base more l cell sets) (sym (drop-cons content i 0 h)))
 
-  -- what adding the type at the place of a row that fits keeps, marking keeps
+  -- what joining at the place of a row that fits keeps, marking keeps
   pub mark-keeps : (P : List ℕ → Type 0) (arguments : List ℕ) (cell : ℕ)
-      → ((row l : List ℕ) → All (λ d. d < length states) row → T (fits (setsAt states row) arguments) → P l → P (addedAt l (base + cellFrom (length states) cell row) type))
+      → ((row l : List ℕ) → All (λ d. d < length states) row → T (fits (setsAt states row) arguments) → P l → P (joinedAt l (base + cellFrom (length states) cell row) more))
       → (sets : List ℕ)
       → P sets
-      → P (markRows states base type arguments cell sets)
+      → P (markRows states base more arguments cell sets)
   unfolding markRows
-  mark-keeps P [] cell h sets p = subst (λ (k : ℕ). P (addedAt sets (base + k) type)) (from-nil (length states) cell) (h [] sets tt tt p)
+  mark-keeps P [] cell h sets p = subst (λ (k : ℕ). P (joinedAt sets (base + k) more)) (from-nil (length states) cell) (h [] sets tt tt p)
   mark-keeps P (t ∷ arguments) cell h sets p =
       in-turn-keeps P (length states) _
       (λ d lt l q.
@@ -186,15 +185,15 @@ module _ (states : List ℕ) (base type : ℕ) where
       (λ holds.
       mark-keeps P arguments (cell * length states + d)
       (λ row k range fit r.
-      subst (λ (n : ℕ). P (addedAt k (base + n) type)) (from-cons (length states) cell d row)
+      subst (λ (n : ℕ). P (joinedAt k (base + n) more)) (from-cons (length states) cell d row)
       (h (d ∷ row) k (lt, range) (both-of (has (getD states d 0) t) (fits (setsAt states row) arguments) holds fit) r))
       l q))
       sets p
 
   -- marking keeps the length, and what is there
-  pub length-markRows : (arguments : List ℕ) (cell : ℕ) (sets : List ℕ) → length (markRows states base type arguments cell sets) ≡ length sets
+  pub length-markRows : (arguments : List ℕ) (cell : ℕ) (sets : List ℕ) → length (markRows states base more arguments cell sets) ≡ length sets
   length-markRows arguments cell sets =
-      mark-keeps (λ l. length l ≡ length sets) arguments cell (λ row l range fit e. length-addedAt l _ type ∙ e) sets refl
+      mark-keeps (λ l. length l ≡ length sets) arguments cell (λ row l range fit e. length-joinedAt l _ more ∙ e) sets refl
 
   pub length-markTo : (t : ℕ) (arguments : List ℕ) (cell : ℕ) (sets : List ℕ) (d : ℕ) → length (markTo t arguments cell sets d) ≡ length sets
   unfolding markTo
@@ -202,32 +201,34 @@ module _ (states : List ℕ) (base type : ℕ) where
       in-turn-keeps (λ l. length l ≡ length sets) d _
       (λ i lt l e. by-test (λ k. length k ≡ length sets) (has (getD states i 0) t) l _ e (λ h. length-markRows arguments _ l ∙ e)) sets refl
 
-  pub mark-holds : (arguments : List ℕ) (cell : ℕ) (sets : List ℕ) (j t : ℕ) → T (has (getD sets j 0) t) → T (has (getD (markRows states base type arguments cell sets) j 0) t)
+  pub mark-holds : (arguments : List ℕ) (cell : ℕ) (sets : List ℕ) (j t : ℕ) → T (has (getD sets j 0) t) → T (has (getD (markRows states base more arguments cell sets) j 0) t)
   mark-holds arguments cell sets j t h =
-      mark-keeps (λ l. T (has (getD l j 0) t)) arguments cell (λ row l range fit k. added-keeps l _ type j t k) sets h
+      mark-keeps (λ l. T (has (getD l j 0) t)) arguments cell (λ row l range fit k. joined-keeps l _ more j t k) sets h
 
-  -- the type is in the set at the place of each row that fits
-  pub mark-gives : (arguments row : List ℕ) (cell : ℕ) (sets : List ℕ)
+  -- each type of the set is in the set at the place of each row that fits
+  pub mark-gives : (type : ℕ)
+      → T (has more type)
+      → (arguments row : List ℕ) (cell : ℕ) (sets : List ℕ)
       → All (λ d. d < length states) row
       → T (fits (setsAt states row) arguments)
       → base + cellFrom (length states) cell row < length sets
-      → T (has (getD (markRows states base type arguments cell sets) (base + cellFrom (length states) cell row) 0) type)
+      → T (has (getD (markRows states base more arguments cell sets) (base + cellFrom (length states) cell row) 0) type)
   unfolding markRows
-  mark-gives [] [] cell sets range fit lt =
-      subst (λ (n : ℕ). T (has (getD (addedAt sets (base + cell) type) (base + n) 0) type)) (sym (from-nil (length states) cell))
-      (added-gives sets (base + cell) type (subst (λ (n : ℕ). base + n < length sets) (from-nil (length states) cell) lt))
-  mark-gives [] (d ∷ row) cell sets range fit lt = absurd fit
-  mark-gives (t ∷ arguments) [] cell sets range fit lt = absurd fit
-  mark-gives (t ∷ arguments) (d ∷ row) cell sets range fit lt =
+  mark-gives type holds [] [] cell sets range fit lt =
+      subst (λ (n : ℕ). T (has (getD (joinedAt sets (base + cell) more) (base + n) 0) type)) (sym (from-nil (length states) cell))
+      (joined-gives sets (base + cell) more type holds (subst (λ (n : ℕ). base + n < length sets) (from-nil (length states) cell) lt))
+  mark-gives type holds [] (d ∷ row) cell sets range fit lt = absurd fit
+  mark-gives type holds (t ∷ arguments) [] cell sets range fit lt = absurd fit
+  mark-gives type holds (t ∷ arguments) (d ∷ row) cell sets range fit lt =
       in-turn-gives (λ l. length l ≡ length sets) (λ l. T (has (getD l at 0) type)) (length states) _
       (λ i h l e. by-test (λ k. length k ≡ length sets) (has (getD states i 0) t) l _ e (λ b. length-markRows arguments _ l ∙ e))
       (λ i h l k. by-test (λ k. T (has (getD k at 0) type)) (has (getD states i 0) t) l _ k (λ b. mark-holds arguments _ l at type k))
       d (range .0)
       (λ l e.
       let w = both (has (getD states d 0) t) (fits (setsAt states row) arguments) fit in
-      subst (λ (b : Bool). T (has (getD (cond b (markRows states base type arguments (cell * length states + d) l) l) at 0) type)) (sym (T-true (has (getD states d 0) t) (w .0)))
-      (subst (λ (n : ℕ). T (has (getD (markRows states base type arguments (cell * length states + d) l) (base + n) 0) type)) (sym next)
-      (mark-gives arguments row (cell * length states + d) l (range .1) (w .1) (omega (arith, e, ap (λ (n : ℕ). base + n) next)))))
+      subst (λ (b : Bool). T (has (getD (cond b (markRows states base more arguments (cell * length states + d) l) l) at 0) type)) (sym (T-true (has (getD states d 0) t) (w .0)))
+      (subst (λ (n : ℕ). T (has (getD (markRows states base more arguments (cell * length states + d) l) (base + n) 0) type)) (sym next)
+      (mark-gives type holds arguments row (cell * length states + d) l (range .1) (w .1) (omega (arith, e, ap (λ (n : ℕ). base + n) next)))))
       sets refl
     where
       at : ℕ
@@ -236,19 +237,20 @@ module _ (states : List ℕ) (base type : ℕ) where
       next : cellFrom (length states) cell (d ∷ row) ≡ cellFrom (length states) (cell * length states + d) row
       next = from-cons (length states) cell d row
 
+module _ (states : List ℕ) (base : ℕ) where
   -- the cell of a row to be begun lies in the buffer
   cell-inside : (arguments : List ℕ) (cell : ℕ) (sets : List ℕ)
-      → Markable states base type arguments cell sets
+      → Markable states base arguments cell sets
       → 0 < length states ^ length arguments
       → base + cell < length sets
   cell-inside arguments cell sets h pos = omega (arith, h .room, le-mul-of-pos-right (cell + 1) pos)
 
   -- one state more
   one-more : (t : ℕ) (arguments : List ℕ) (cell d : ℕ) (sets l : List ℕ)
-      → Markable states base type (t ∷ arguments) cell sets
+      → Markable states base (t ∷ arguments) cell sets
       → d < length states
       → length l ≡ length sets
-      → Markable states base type arguments (cell * length states + d) l
+      → Markable states base arguments (cell * length states + d) l
   one-more t arguments cell d sets l h lt e =
       let m : ℕ = length states in
       let k : ℕ = length arguments in
@@ -257,18 +259,18 @@ module _ (states : List ℕ) (base type : ℕ) where
       ap (λ (n : ℕ). n * m ^ k) (ap (λ (n : ℕ). cell * m + n) (sym (one-mul m)) ∙ sym (add-mul cell 1 m))
       ∙ mul-assoc (cell + 1) m (m ^ k)
       ∙ ap (λ (n : ℕ). (cell + 1) * n) (sym (pow-succ' m k)) in
-      record { low = h .low; asked = h .asked .1; room = omega (arith, h .room, row, all, e) }
+      record { asked = h .asked .1; room = omega (arith, h .room, row, all, e) }
 
 -- by place in the content: at its end, and before it
-module _ {states : List ℕ} {base type cell : ℕ} {sets : List ℕ} (content : List ℕ) (i : ℕ) (h : Markable states base type (drop i content) cell sets) where
+module _ {states : List ℕ} {base cell : ℕ} {sets : List ℕ} (content : List ℕ) (i : ℕ) (h : Markable states base (drop i content) cell sets) where
   pub end-inside : length content ≤ i → base + cell < length sets
   end-inside end =
-      cell-inside states base type [] cell sets (subst (λ (l : List ℕ). Markable states base type l cell sets) (drop-of-length-le content end) h)
+      cell-inside states base [] cell sets (subst (λ (l : List ℕ). Markable states base l cell sets) (drop-of-length-le content end) h)
       (subst (λ (n : ℕ). 0 < n) (sym (pow-zero (length states))) (zero-lt-suc 0))
 
   module _ (before : i < length content) where
-    here : Markable states base type (getD content i 0 ∷ drop (i + 1) content) cell sets
-    here = rw (add-one i) (subst (λ (l : List ℕ). Markable states base type l cell sets) (drop-cons content i 0 before) h)
+    here : Markable states base (getD content i 0 ∷ drop (i + 1) content) cell sets
+    here = rw (add-one i) (subst (λ (l : List ℕ). Markable states base l cell sets) (drop-cons content i 0 before) h)
 
     pub asked-low : getD content i 0 < 16
     asked-low = here .asked .0
@@ -276,10 +278,10 @@ module _ {states : List ℕ} {base type cell : ℕ} {sets : List ℕ} (content :
     pub deeper : (d : ℕ) (l : List ℕ)
         → d < length states
         → length l ≡ length sets
-        → Markable states base type (drop (i + 1) content) (cell * length states + d) l
-    deeper d l lt e = one-more states base type (getD content i 0) (drop (i + 1) content) cell d sets l here lt e
+        → Markable states base (drop (i + 1) content) (cell * length states + d) l
+    deeper d l lt e = one-more states base (getD content i 0) (drop (i + 1) content) cell d sets l here lt e
 
     pub next-inside : (d : ℕ) → d < length states → base + (cell * length states + d) < length sets
     next-inside d lt =
-        cell-inside states base type (drop (i + 1) content) _ sets (deeper d sets lt refl)
+        cell-inside states base (drop (i + 1) content) _ sets (deeper d sets lt refl)
         (one-le-pow (length (drop (i + 1) content)) (length states) (omega arith))

@@ -1,18 +1,22 @@
--- The members of a set of types as bits of its number: read by a shift; the size of a set with a type added. Assumes nothing.
-use Prim.Native.Nat.{ℕ, zero, suc, _/_, _%_, _^_, _<_}
-use mathlib.Core.Path.{_≡_, sym, ap, _∙_}
-use native.Mathlib.Nat.{div-one, pow-zero, pow-succ', div-div-eq-div-mul}
-use lib.Dec.{eqb}
+-- The set with one type alone, and the size of a set with a type added. Assumes nothing.
+use Prim.Native.Nat.{ℕ, _^_, _<_}
+use mathlib.Core.Path.{_≡_, sym, subst}
+use mathlib.Core.Logic.{⊎-elim}
+use lib.Dec.{T, eqb, eqb→eq, eqb-refl}
 use lib.Bits.{or-lt}
 use lib.Pow.{pow-lt}
 use Rattle.meaning.specs.Types.{has}
+use Rattle.meaning.proofs.Lists.{either, left-of}
+use Rattle.meaning.proofs.Sets.{has-nothing}
+use Rattle.meaning.proofs.Bits.{has-with}
 use Rattle.automaton.specs.Sets.{added}
 
--- a member is read by a shift
-pub has-shift : (s t : ℕ) → has s t ≡ eqb (s / 2 ^ t % 2) 1
-has-shift s zero = ap (λ (n : ℕ). eqb (n % 2) 1) (sym (div-one s) ∙ ap (λ (n : ℕ). s / n) (sym (pow-zero 2)))
-has-shift s (suc t) =
-    has-shift (s / 2) t ∙ ap (λ (n : ℕ). eqb (n % 2) 1) (div-div-eq-div-mul s 2 (2 ^ t) ∙ ap (λ (n : ℕ). s / n) (sym (pow-succ' 2 t)))
+pub one-has : (t u : ℕ) → T (has (added 0 t) u) → u ≡ t
+one-has t u h =
+    ⊎-elim (λ k. eqb→eq u t k) (λ k. absurd (subst T (has-nothing u) k)) (either (eqb u t) (has 0 u) (subst T (has-with 0 t u) h))
+
+pub one-own : (t : ℕ) → T (has (added 0 t) t)
+one-own t = subst T (sym (has-with 0 t t)) (left-of (eqb t t) (has 0 t) (eqb-refl t))
 
 -- a set with one type added is a number of 16 bits
 pub added-lt : (s t : ℕ) → s < 2 ^ 16 → t < 16 → added s t < 2 ^ 16

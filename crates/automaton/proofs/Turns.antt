@@ -16,6 +16,7 @@ use Rattle.fields.specs.Found.{foundIn, contentsFrom, onContent}
 use Rattle.fields.specs.declared.Found.{Found}
 use Rattle.fields.specs.declared.Found.the-variants.{End, Cut, Whole}
 use Rattle.fields.proofs.Fronts.{found-whole, found-cut, found-end, front-rest, front-inside, front-content}
+use Rattle.automaton.specs.Sets.{added}
 use Rattle.automaton.specs.Marking.{markRows, markProduction, markAll, Markable, AreProductions, Fillable}
 use Rattle.automaton.proofs.Marking.{length-markRows}
 
@@ -33,21 +34,21 @@ module _ (states arities sets content : List ℕ) (fill : Fillable states aritie
     base-is : base ≡ start (length states) arities (getD content 1 0)
     base-is = starts ∙ ap (start (length states) arities) read
 
-    pub production-markable : Markable states base (getD content 0 0) (drop 2 content) 0 sets
+    pub production-markable : Markable states base (drop 2 content) 0 sets
     production-markable =
         let m : ℕ = length states in
         let n : ℕ = length (drop 2 content) in
         record {
-          low = well .0;
           asked = well .2;
           room = omega (arith, fill .room, base-is, one-mul (m ^ n), start-le m arities (getD content 1 0) n (well .1));
         }
 
-    pub production-marked : {l : List ℕ}
-        → l ≡ markRows states base (getD content 0 0) (drop 2 content) 0 sets
+    pub production-marked : {target : ℕ} {l : List ℕ}
+        → target ≡ added 0 (getD content 0 0)
+        → l ≡ markRows states base target (drop 2 content) 0 sets
         → l ≡ markProduction states arities (productionOf content) sets
     unfolding markProduction
-    production-marked e = e ∙ ap (λ (b : ℕ). markRows states b (getD content 0 0) (drop 2 content) 0 sets) base-is
+    production-marked target e = e ∙ ap₂ (λ (b t : ℕ). markRows states b t (drop 2 content) 0 sets) base-is target
 
 -- marking it keeps the length
 pub length-markProduction : (states arities : List ℕ) (p : Production) (sets : List ℕ) {l : List ℕ}
@@ -55,7 +56,7 @@ pub length-markProduction : (states arities : List ℕ) (p : Production) (sets :
     → length l ≡ length sets
 unfolding markProduction
 length-markProduction states arities p sets e =
-    ap (λ (k : List ℕ). length k) e ∙ length-markRows states (start (length states) arities (p .symbol)) (p .target) (p .arguments) 0 sets
+    ap (λ (k : List ℕ). length k) e ∙ length-markRows states (start (length states) arities (p .symbol)) (added 0 (p .target)) (p .arguments) 0 sets
 
 -- the productions of the next `left` fields, in order
 unfoldable pub markFrom : List ℕ → List ℕ → List ℕ → ℕ → ℕ → List ℕ → List ℕ

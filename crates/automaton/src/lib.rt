@@ -72,7 +72,7 @@ fn clear(sets: &mut [u16], n: usize)
     }
 }
 
-// Adds a type at the cells of all rows that fit the arguments from i on: the state at each place holds the type that is asked for there.
+// Joins a set of types into the cells of all rows that fit the arguments from i on: the state at each place holds the type that is asked for there.
 // `cell` is the cell of the states chosen so far; the segment of the symbol starts at `start`.
 fn mark(
     sets: &mut [u16],
@@ -81,15 +81,15 @@ fn mark(
     content: &[u8],
     i: usize,
     cell: usize,
-    target: u8,
+    more: TypeSet,
 )
-    requires { ⌜ Markable (now states) start target (drop i (now content)) cell (now sets) ⌝ }
-    ensures { λ r. ⌜ now (sets .exit) ≡ markRows (now (states .entry)) start target (drop i (now (content .entry))) cell (now (sets .entry)) ⌝ }
+    requires { ⌜ Markable (now states) start (drop i (now content)) cell (now sets) ⌝ }
+    ensures { λ r. ⌜ now (sets .exit) ≡ markRows (now (states .entry)) start (more .bits) (drop i (now (content .entry))) cell (now (sets .entry)) ⌝ }
 {
     if content.len() <= i {
         let at = start + cell;
-        let more = TypeSet { bits: sets[at] }.with(target);
-        sets[at] = more.bits;
+        let joined = TypeSet { bits: sets[at] }.join(more);
+        sets[at] = joined.bits;
         return;
     }
     let mut d = 0;
@@ -103,7 +103,7 @@ fn mark(
                 content,
                 i + 1,
                 cell * states.len() + d,
-                target,
+                more,
             );
         }
         d += 1;
@@ -116,7 +116,8 @@ fn mark_production(sets: &mut [u16], states: &[u16], arities: &[u8], content: &[
     ensures { λ r. ⌜ now (sets .exit) ≡ markProduction (now (states .entry)) (now (arities .entry)) (productionOf (now (content .entry))) (now (sets .entry)) ⌝ }
 {
     let start = cells::start_of(arities, states.len(), wide(content[1]));
-    mark(sets, start, states, content, 2, 0, content[0]);
+    let target = TypeSet::none().with(content[0]);
+    mark(sets, start, states, content, 2, 0, target);
 }
 
 // The sets that the symbols give over all rows of some sets, symbol after symbol: one pass over the productions.

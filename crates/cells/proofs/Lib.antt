@@ -1,5 +1,6 @@
 pub mod Powers
 pub mod Rows
 pub mod Segments
+pub mod Parts
 pub mod Beginnings
 pub mod Fronts

@@ -1,9 +1,10 @@
 -- The answer to a sheet from the four searches, and what each of them asks. Assumes nothing.
-use Prim.Native.Nat.{ℕ, zero, suc, _^_, max}
+use Prim.Native.Nat.{ℕ, zero, suc, _^_, _<_, max}
 use mathlib.Core.Path.{_≡_, refl, sym, ap, subst, _∙_}
 use mathlib.Core.Bool.{Bool, true, false, cond, not, _&&_}
 use mathlib.Core.List.{List, [], _∷_, _++_, Memᴰ·cast}
 use mathlib.Core.Option.{Option, none, some}
+use native.Mathlib.Omega.{arith}
 use lib.Dec.{T, eqb, eqb→eq, ltb, ltb→lt}
 use lib.ListN.{length, replicate, length-replicate}
 use Rattle.meaning.specs.Lists.{All, allOf, anyOf, anyBelow, same, lowest}
@@ -13,7 +14,7 @@ use Rattle.meaning.specs.Limits.{atomTag}
 use Rattle.meaning.specs.Fields.{Field, whole, cut, fields, contentsOf, firstField}
 use Rattle.meaning.specs.Cells.{rowOf}
 use Rattle.meaning.specs.Clauses.{IsAtom, instanceIn, marked}
-use Rattle.meaning.specs.Certificates.{IsSheetAtom, isAtomContent, misplaced, statesIn, differ, wrongAtom, among, violated, violatedAt, sheetAnswer, markedAtoms}
+use Rattle.meaning.specs.Certificates.{IsSheetAtom, isAtomContent, misplaced, statesIn, differ, wrongAtom, among, violated, violatedAt, refusedAt, sheetAnswer, markedAtoms}
 use Rattle.meaning.specs.Refusals as meant
 use Rattle.meaning.specs.Files.{rulesOf}
 use Rattle.meaning.specs.Calls.{predicateArities, statesOf, interpretationOf}
@@ -32,31 +33,23 @@ use Rattle.results.specs.Handed.{Handed}
 use Rattle.results.proofs.Handing.{few-states, few-preds, narrow-preds, handed-violations}
 use Rattle.faults.specs.declared.Fault.{Fault}
 use Rattle.faults.specs.declared.Fault.the-variants.{Nowhere, At}
-use Rattle.faults.specs.Faults.{faultAt}
+use Rattle.faults.specs.Faults.{faultAnswer}
 use Rattle.marking.specs.Holding.{Segmented, Holding}
 
--- what was found, from what was handed back
-abbrev IsNowhere : Fault → Type 0
-IsNowhere Nowhere = Unit
-IsNowhere (At k) = ⊥
+-- what was found, from what was handed back: the number that is looked for is not 0
+pub nowhere : {n : ℕ} {o : Option ℕ} {f : Fault} → 0 < n → faultAnswer n f ≡ refusedAt n o meant.accepted → f ≡ Nowhere → o ≡ none
+nowhere {n} {o} pos is e = go o (sym (ap (faultAnswer n) e) ∙ is)
+  where
+    go : (o : Option ℕ) → meant.accepted ≡ refusedAt n o meant.accepted → o ≡ none
+    go none h = refl
+    go (some k) h = absurd (omega (arith, ap (λ (a : meant.Answer). a .number) h))
 
-abbrev placeIn : Fault → ℕ
-placeIn Nowhere = 0
-placeIn (At k) = k
-
-fault-none : (o : Option ℕ) → Nowhere ≡ faultAt o → o ≡ none
-fault-none none e = refl
-fault-none (some k) e = absurd (subst IsNowhere e tt)
-
-fault-some : (o : Option ℕ) (k : ℕ) → At k ≡ faultAt o → o ≡ some k
-fault-some none k e = absurd (subst IsNowhere (sym e) tt)
-fault-some (some i) k e = ap some (sym (ap placeIn e))
-
-pub nowhere : {o : Option ℕ} {f : Fault} → f ≡ faultAt o → f ≡ Nowhere → o ≡ none
-nowhere {o} is e = fault-none o (sym e ∙ is)
-
-pub somewhere : {o : Option ℕ} {f : Fault} {k : ℕ} → f ≡ faultAt o → f ≡ At k → o ≡ some k
-somewhere {o} {k = k} is e = fault-some o k (sym e ∙ is)
+pub somewhere : {n : ℕ} {o : Option ℕ} {f : Fault} {k : ℕ} → 0 < n → faultAnswer n f ≡ refusedAt n o meant.accepted → f ≡ At k → o ≡ some k
+somewhere {n} {o} {k = k} pos is e = go o (sym (ap (faultAnswer n) e) ∙ is)
+  where
+    go : (o : Option ℕ) → meant.refused n k ≡ refusedAt n o meant.accepted → o ≡ some k
+    go none h = absurd (omega (arith, ap (λ (a : meant.Answer). a .number) h))
+    go (some i) h = ap some (sym (ap (λ (a : meant.Answer). a .place) h))
 
 -- as many marks as cells
 pub length-zeros : (marks : List ℕ) {n : ℕ} → marks ≡ replicate n 0 → length marks ≡ n

@@ -6,7 +6,7 @@ use mathlib.Core.List.{List, [], _∷_, _++_}
 use lib.Dec.{eqb}
 use lib.ListN.{length, getD}
 use Rattle.meaning.specs.Types.{has}
-use Rattle.meaning.specs.Refusals.{Answer}
+use Rattle.meaning.specs.Refusals.{Answer, ok}
 use Rattle.text.specs.Decimal.{decimal}
 
 abbrev pub space : ℕ
@@ -56,6 +56,10 @@ countsLine first a second b = numberAfter first a ++ countLine second b
 -- `refused N at K`
 unfoldable pub refusedLine : Answer → List ℕ
 refusedLine a = countsLine refusedWord (a .number) atWord (a .place)
+
+-- what is printed of an answer: that line of a refusal, else nothing
+unfoldable pub refusalText : Answer → List ℕ
+refusalText a = cond (ok a) [] (refusedLine a)
 
 -- a space and a type's name, if the state holds the type; those of all types in type order, where t is the number of the first
 abbrev pub heldName : ℕ → ℕ → List ℕ → List ℕ

@@ -16,13 +16,6 @@ fn wide(b: u8) -> usize
     b as usize
 }
 
-fn print_refusal(number: usize, place: usize, out: &mut [u8])
-    requires { ⌜ 128 ≤ length (now out) ⌝ }
-{
-    let n = lines::put_refusal(out, 0, number, place);
-    io::write_all(STDOUT_FILENO, &out[..n]);
-}
-
 // Where the next piece is put: after the last one, or at the start of the buffer, which is written out where it has no room for a piece.
 fn flush(out: &[u8], at: usize) -> usize
     requires { ⌜ (at ≤ length (now out)) × (128 ≤ length (now out)) ⌝ }
@@ -113,10 +106,12 @@ fn list(
 )
     requires { ⌜ 128 ≤ length (now out) ⌝ }
 {
-    let r = analysis::analyse(file, states, tables, marks, verdicts);
+    let answered = listing_answer::answer(file, states, tables, marks, verdicts, out);
+    let n = answered.text;
+    io::write_all(STDOUT_FILENO, &out[..n]);
+    let r = answered.analysis;
     let answer = r.answer;
     if answer.number != 0 {
-        print_refusal(answer.number, answer.place, out);
         return;
     }
     print_results(

@@ -1,7 +1,7 @@
 -- One atom of a sheet: its parts, its place in the marks, whether it is free there, and what the marks hold with it. Assumes nothing.
-use Prim.Native.Nat.{ℕ, _+_, _-_, _≤_, _<_}
+use Prim.Native.Nat.{ℕ, _+_, _-_, _^_, _≤_, _<_}
 use mathlib.Core.Path.{_≡_, refl, sym, ap, ap₂, subst, _∙_}
-use mathlib.Core.Logic.{_⊎_, inl, inr, _≢_}
+use mathlib.Core.Logic.{_⊎_, inl, inr}
 use mathlib.Core.Bool.{Bool, true, false, cond, not, _&&_, _||_, or-true, or-false}
 use mathlib.Core.List.{List, [], _∷_, _++_}
 use native.Mathlib.Nat.{zero-lt-suc}
@@ -10,7 +10,7 @@ use native.Mathlib.Omega.{arith}
 use lib.Dec.{T, eqb, ltb, ltb→lt}
 use lib.ListN.{length, getD, take, drop, set, replicate, length-set, length-replicate, getD-replicate, List·getD-eq-default}
 use lib.Seq.{getD-set-same, getD-set-other}
-use borrow.Author.Tests.{eq-eqb, ne-eqb}
+use borrow.Rule.Slice.PartMut.{midOf, putMid, put-same}
 use Rattle.meaning.specs.Lists.{allOf, All, same}
 use Rattle.meaning.specs.Legal.{Declared}
 use Rattle.meaning.specs.Limits.{atomTag}
@@ -22,7 +22,8 @@ use Rattle.meaning.proofs.Lists.{T-of, T-true, T-false, not-intro, both, all-fa
 use Rattle.meaning.proofs.Loops.{part-rest}
 use Rattle.meaning.proofs.Fields.{contentsOf-append}
 use Rattle.meaning.proofs.Contents.{declared-exact}
-use Rattle.meaning.proofs.Cells.{place-lt, place-inj}
+use Rattle.meaning.proofs.Cells.{cell-lt, place-lt, place-inj}
+use Rattle.cells.proofs.Parts.{cell-in-part, part-at, part-set, segment-inside}
 use Rattle.marking.specs.Holding.{isFree, Segmented, Holding}
 
 -- the bytes after the first, as a part of the content
@@ -68,43 +69,49 @@ module _ (m : ℕ) (preds segments content marks : List ℕ)
       (λ (b : Bool). b && eqb (getD marks (place m preds (getD content 0 0) (drop 1 content)) 0) 0)
       (sym f ∙ (e ∙ ap (allOf (λ d. ltb d m)) (part-rest 1 content)))
 
-  -- its place, from where the segment starts and the cell of the row
-  module _ {p first c : ℕ} (is : p ≡ getD content 0 0) (starts : first ≡ getD segments p 0) (cell-is : c ≡ cell m (rowIn content)) where
-    place-is : first + c ≡ place m preds (getD content 0 0) (drop 1 content)
-    place-is =
-        ap₂
-        _+_
-        (starts ∙ (segs .each p (predicate-lt is) ∙ ap (start m preds) is))
-        (cell-is ∙ ap (cell m) (part-rest 1 content))
+  -- its predicate's part of the marks, and its cell there
+  module _ {p first size : ℕ} (is : p ≡ getD content 0 0) (starts : first ≡ getD segments p 0) (power : size ≡ m ^ getD preds p 0) where
+    first-is : first ≡ start m preds p
+    first-is = starts ∙ segs .each p (predicate-lt is)
 
-    module _ {b : Bool} (e : b ≡ allOf (λ d. ltb d m) (rowIn content)) (t : b ≡ true) where
+    pub part-inside : first + size ≤ length marks
+    part-inside = segment-inside m preds marks p (predicate-lt is) (asked .2) first-is power
+
+    module _ {c : ℕ} (cell-is : c ≡ cell m (rowIn content)) {b : Bool} (e : b ≡ allOf (λ d. ltb d m) (rowIn content)) (t : b ≡ true) where
+      place-is : first + c ≡ place m preds (getD content 0 0) (drop 1 content)
+      place-is = ap₂ _+_ (first-is ∙ ap (start m preds) is) (cell-is ∙ ap (cell m) (part-rest 1 content))
+
       below : allOf (λ d. ltb d m) (drop 1 content) ≡ true
       below = ap (allOf (λ d. ltb d m)) (sym (part-rest 1 content)) ∙ (sym e ∙ t)
 
-      pub place-inside : first + c < length marks
-      place-inside =
-          subst
-          (λ (n : ℕ). n < length marks)
-          (sym place-is)
-          (subst
-          (λ (n : ℕ). place m preds (getD content 0 0) (drop 1 content) < n)
-          (sym (asked .2))
-          (place-lt m preds (getD content 0 0) (drop 1 content) (declared-here, all-below m (drop 1 content) below)))
+      cell-low : first + c < first + size
+      cell-low =
+          let low = cell-lt m (drop 1 content) (all-below m (drop 1 content) below) in
+          let same : size ≡ m ^ length (drop 1 content) = power ∙ ap (λ (n : ℕ). m ^ n) (ap (λ (q : ℕ). getD preds q 0) is ∙ declared-here .1) in
+          omega (arith, low, same, cell-is, ap (cell m) (part-rest 1 content))
 
-      free-is : isFree m preds marks content ≡ eqb (getD marks (first + c) 0) 0
+      abbrev part : List ℕ
+      part = midOf first (first + size - first) marks
+
+      pub cell-inside : c < length part
+      cell-inside = cell-in-part marks first (first + size) c part-inside cell-low
+
+      free-is : eqb (getD part c 0) 0 ≡ isFree m preds marks content
       free-is =
-          ap₂
-          (λ (a : Bool) (n : ℕ). a && eqb (getD marks n 0) 0)
-          below
-          (sym place-is)
+          ap (λ (n : ℕ). eqb n 0) (part-at marks first (first + size) c part-inside cell-low)
+          ∙ sym (ap₂ (λ (a : Bool) (n : ℕ). a && eqb (getD marks n 0) 0) below (sym place-is))
 
-      pub marked-already : getD marks (first + c) 0 ≢ 0 → false ≡ isFree m preds marks content
-      marked-already ne = sym (free-is ∙ ne-eqb (getD marks (first + c) 0) 0 ne)
-
-      pub put-new : getD marks (first + c) 0 ≡ 0
-          → (true ≡ isFree m preds marks content)
-          × (set marks (first + c) 2 ≡ set marks (place m preds (getD content 0 0) (drop 1 content)) 2)
-      put-new z = (sym (free-is ∙ eq-eqb (getD marks (first + c) 0) 0 z), ap (λ (n : ℕ). set marks n 2) place-is)
+      -- the cell marked in the part is the atom marked in the whole
+      pub part-marked : {r : Bool} {l : List ℕ}
+          → r ≡ eqb (getD part c 0) 0
+          → l ≡ cond r (set part c 2) part
+          → (r ≡ isFree m preds marks content)
+          × (putMid first (first + size - first) marks l ≡ cond r (set marks (place m preds (getD content 0 0) (drop 1 content)) 2) marks)
+      part-marked {r} free put = (free ∙ free-is, ap (putMid first (first + size - first) marks) put ∙ go r)
+        where
+          go : (r : Bool) → putMid first (first + size - first) marks (cond r (set part c 2) part) ≡ cond r (set marks (place m preds (getD content 0 0) (drop 1 content)) 2) marks
+          go true = part-set marks first (first + size) c part-inside cell-low 2 ∙ ap (λ (n : ℕ). set marks n 2) place-is
+          go false = put-same first (first + size - first) marks
 
 -- marks that hold no atom
 pub hold-none : (m : ℕ) (preds : List ℕ) → Holding m preds [] (replicate (cells m preds) 0)

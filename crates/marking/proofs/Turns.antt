@@ -4,7 +4,7 @@ use mathlib.Core.Path.{_≡_, refl, sym, ap, ap₂, subst, subst₂, _∙_}
 use mathlib.Core.Logic.{_≢_}
 use mathlib.Core.Bool.{Bool, true, false, cond, not, _&&_, _||_}
 use mathlib.Core.List.{List, [], _∷_, _++_, append-nil}
-use mathlib.Core.Option.{none, some, Option·some-ne-none}
+use mathlib.Core.Option.{Option, none, some, Option·some-ne-none}
 use native.Mathlib.Omega.{arith}
 use lib.Dec.{T, eqb, ltb}
 use lib.ListN.{length, getD, drop, set, replicate, length-append, length-replicate, length-drop, drop-of-length-le}
@@ -15,14 +15,15 @@ use Rattle.meaning.specs.Limits.{atomTag}
 use Rattle.meaning.specs.Fields.{Field, whole, Front, empty, short, front, frontOf, onFront, fields, contentsOf, firstField}
 use Rattle.meaning.specs.Cells.{cells}
 use Rattle.meaning.specs.Clauses.{place}
-use Rattle.meaning.specs.Certificates.{isAtomContent, misplaced, wrongAtom}
+use Rattle.meaning.specs.Refusals.{accepted}
+use Rattle.meaning.specs.Certificates.{isAtomContent, misplaced, wrongAtom, refusedAt}
 use Rattle.meaning.proofs.Lists.{T-of, T-not-of, not-not}
 use Rattle.meaning.proofs.Fields.{first-after, FrontIs, front-law, fields-step, fields-nil, contentsOf-append, contentsOf-other, NoField, NoField-append, firstField-none}
 use Rattle.fields.specs.Found.{contentIn, nextIn}
 use Rattle.reader.specs.Tags.{tagIn}
 use Rattle.fields.proofs.Fronts.{front-rest}
 use Rattle.faults.specs.declared.Fault.the-variants.{Nowhere, At}
-use Rattle.faults.specs.Faults.{faultAt}
+use Rattle.faults.specs.Faults.{faultAnswer}
 use Rattle.marking.specs.Holding.{isFree, Holding}
 use Rattle.marking.proofs.Atoms.{hold-none, wrong-is, hold-free}
 
@@ -58,12 +59,12 @@ module _ (m : ℕ) (preds sheet : List ℕ) where
   module _ {at k : ℕ} {marks : List ℕ} {done : List Field} (r : Reached m preds sheet at k marks done) where
     -- at the end
     pub ends : length sheet ≤ at
-        → (Nowhere ≡ faultAt (firstField (wrongAtom m) (fields sheet)))
+        → (faultAnswer 12 Nowhere ≡ refusedAt 12 (firstField (wrongAtom m) (fields sheet)) accepted)
         × ((length marks ≡ cells m preds)
         × (firstField (wrongAtom m) (fields sheet) ≡ none → Holding m preds (contentsOf atomTag (fields sheet)) marks))
     ends le =
         let whole-sheet : done ≡ fields sheet = sym (r .split ∙ (ap (λ (l : List ℕ). done ++ fields l) (drop-of-length-le sheet le) ∙ (ap (λ (l : List Field). done ++ l) fields-nil ∙ append-nil done))) in (
-          sym (ap faultAt (firstField-none (wrongAtom m) (fields sheet) .1 (subst (NoField (wrongAtom m) []) whole-sheet (r .fine)))),
+          sym (ap (λ (place : Option ℕ). refusedAt 12 place accepted) (firstField-none (wrongAtom m) (fields sheet) .1 (subst (NoField (wrongAtom m) []) whole-sheet (r .fine)))),
           (r .holding .size, λ _. subst (λ (fs : List Field). Holding m preds (contentsOf atomTag fs) marks) whole-sheet (r .holding)),
         )
 
@@ -179,7 +180,7 @@ module _ (m : ℕ) (preds sheet : List ℕ) where
           puts-by e = puts ∙ ap (λ (a : Bool). cond a (set marks (place m preds (getD content 0 0) (drop 1 content)) 2) marks) e
 
           pub stop-wrong : b ≡ false
-              → (At k ≡ faultAt (firstField (wrongAtom m) (fields sheet)))
+              → (faultAnswer 12 (At k) ≡ refusedAt 12 (firstField (wrongAtom m) (fields sheet)) accepted)
               × ((length marks′ ≡ cells m preds)
               × (firstField (wrongAtom m) (fields sheet) ≡ none → Holding m preds (contentsOf atomTag (fields sheet)) marks′))
           stop-wrong e =
@@ -187,7 +188,7 @@ module _ (m : ℕ) (preds sheet : List ℕ) where
               ap (firstField (wrongAtom m)) (r .split ∙ ap (λ (l : List Field). done ++ l) fields-here)
               ∙ (first-after (wrongAtom m) done (whole (here .tag) (here .content)) (fields (here .rest)) (r .fine) (T-of (wrongAtom m done (whole (here .tag) (here .content))) (wrong ∙ ap not e))
               ∙ ap some (r .count)) in
-              (sym (ap faultAt first), (ap length (puts-by e) ∙ r .holding .size, λ z. absurd (Option·some-ne-none k (sym first ∙ z))))
+              (sym (ap (λ (place : Option ℕ). refusedAt 12 place accepted) first), (ap length (puts-by e) ∙ r .holding .size, λ z. absurd (Option·some-ne-none k (sym first ∙ z))))
 
           pub turn-atom : {at′ : ℕ} → at′ ≡ nextIn at (frontOf (drop at sheet)) → b ≡ true → (later : List Field) × Reached m preds sheet at′ (k + 1) marks′ later
           turn-atom next e =

@@ -3,15 +3,17 @@ use faults::Fault;
 ghost use mathlib.Core.Path.{_≡_};
 ghost use mathlib.Core.Bool.{cond};
 ghost use mathlib.Core.Option.{none};
-ghost use lib.Dec.{T, ltb};
+ghost use Prim.Native.Nat.{_<_};
+ghost use lib.Dec.{T, eqb, ltb};
 ghost use lib.ListN.{length, getD, set, drop, replicate};
 ghost use Rattle.meaning.specs.Lists.{allOf};
 ghost use Rattle.meaning.specs.Limits.{atomTag};
 ghost use Rattle.meaning.specs.Fields.{fields, contentsOf, firstField};
 ghost use Rattle.meaning.specs.Cells.{cells};
 ghost use Rattle.meaning.specs.Clauses.{place};
-ghost use Rattle.meaning.specs.Certificates.{isAtomContent, misplaced, wrongAtom};
-ghost use Rattle.faults.specs.Faults.{faultAt};
+ghost use Rattle.meaning.specs.Refusals.{accepted};
+ghost use Rattle.meaning.specs.Certificates.{isAtomContent, misplaced, wrongAtom, refusedAt};
+ghost use Rattle.faults.specs.Faults.{faultAnswer};
 ghost use Rattle.marking.specs.Holding.{isFree, Segmented, Holding};
 
 fn wide(b: u8) -> usize
@@ -40,7 +42,19 @@ fn all_below(row: &[u8], m: usize) -> bool
     true
 }
 
-// Marks an atom as new, if its states are below m and it is not marked. Hands back whether that was so.
+// Marks a cell of a predicate's part as new, if it is not marked. Hands back whether that was so.
+fn mark_cell(part: &mut [u8], c: usize) -> bool
+    requires { ⌜ c < length (now part) ⌝ }
+    ensures { λ r. ⌜ (r ≡ eqb (getD (now (part .entry)) c 0) 0) × (now (part .exit) ≡ cond r (set (now (part .entry)) c 2) (now (part .entry))) ⌝ }
+{
+    if part[c] != 0 {
+        return false;
+    }
+    part[c] = 2;
+    true
+}
+
+// Marks an atom as new, in its predicate's part of the marks, if its states are below m and it is not marked. Hands back whether that was so.
 fn mark(content: &[u8], marks: &mut [u8], preds: &[u8], segments: &[u32], m: usize) -> bool
     requires { ⌜ T (isAtomContent (now preds) (now content)) × Segmented m (now preds) (now segments) × (length (now marks) ≡ cells m (now preds)) ⌝ }
     ensures { λ r. ⌜ (r ≡ isFree m (now (preds .entry)) (now (marks .entry)) (now (content .entry))) × (now (marks .exit) ≡ cond r (set (now (marks .entry)) (place m (now (preds .entry)) (getD (now (content .entry)) 0 0) (drop 1 (now (content .entry)))) 2) (now (marks .entry))) ⌝ }
@@ -50,18 +64,15 @@ fn mark(content: &[u8], marks: &mut [u8], preds: &[u8], segments: &[u32], m: usi
     if !all_below(row, m) {
         return false;
     }
-    let place = index(segments[p]) + cells::cell_of(row, m);
-    if marks[place] != 0 {
-        return false;
-    }
-    marks[place] = 2;
-    true
+    let a = index(segments[p]);
+    let e = a + cells::power(m, preds[p]);
+    mark_cell(&mut marks[a..e], cells::cell_of(row, m))
 }
 
 // Marks the atoms of a sheet as new, to the first field of an atom that has a state not below m or is there for the second time.
 pub fn mark_atoms(sheet: &[u8], marks: &mut [u8], preds: &[u8], segments: &[u32], m: usize) -> Fault
     requires { ⌜ (firstField (misplaced (now preds)) (fields (now sheet)) ≡ none) × Segmented m (now preds) (now segments) × (now marks ≡ replicate (cells m (now preds)) 0) ⌝ }
-    ensures fault { λ r. ⌜ r ≡ faultAt (firstField (wrongAtom m) (fields (now (sheet .entry)))) ⌝ }
+    ensures fault { λ r. ⌜ faultAnswer 12 r ≡ refusedAt 12 (firstField (wrongAtom m) (fields (now (sheet .entry)))) accepted ⌝ }
     ensures size { λ _. ⌜ length (now (marks .exit)) ≡ cells m (now (preds .entry)) ⌝ }
     ensures holding { λ _. ⌜ (firstField (wrongAtom m) (fields (now (sheet .entry))) ≡ none → Holding m (now (preds .entry)) (contentsOf atomTag (fields (now (sheet .entry)))) (now (marks .exit))) ⌝ }
 {

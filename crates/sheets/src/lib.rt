@@ -6,8 +6,9 @@ ghost use mathlib.Core.Path.{_≡_};
 ghost use lib.ListN.{length, getD};
 ghost use Rattle.meaning.specs.Lists.{lowest};
 ghost use Rattle.meaning.specs.Fields.{fields, firstField, word};
-ghost use Rattle.meaning.specs.Certificates.{isAtomContent, misplaced, statesIn, differ};
-ghost use Rattle.faults.specs.Faults.{faultAt};
+ghost use Rattle.meaning.specs.Refusals.{accepted};
+ghost use Rattle.meaning.specs.Certificates.{isAtomContent, misplaced, statesIn, differ, refusedAt};
+ghost use Rattle.faults.specs.Faults.{faultAnswer};
 ghost use Rattle.sheets.specs.Reading.{misplacedAfter, NoneMisplaced};
 
 fn wide(b: u8) -> usize
@@ -48,7 +49,7 @@ fn is_misplaced(tag: u8, content: &[u8], preds: &[u8], atoms: bool) -> bool
 
 // The first field that is misplaced.
 pub fn first_misplaced(sheet: &[u8], preds: &[u8]) -> Fault
-    ensures { λ r. ⌜ r ≡ faultAt (firstField (misplaced (now (preds .entry))) (fields (now (sheet .entry)))) ⌝ }
+    ensures { λ r. ⌜ faultAnswer 10 r ≡ refusedAt 10 (firstField (misplaced (now (preds .entry))) (fields (now (sheet .entry)))) accepted ⌝ }
 {
     let mut at: usize = 0;
     let mut k: usize = 0;
@@ -81,7 +82,7 @@ fn word_of(content: &[u8]) -> u16
 // The first place where the sheet's states and the given ones differ, a missing or extra one included.
 pub fn first_difference(sheet: &[u8], states: &[u16]) -> Fault
     requires { ⌜ NoneMisplaced (now sheet) ⌝ }
-    ensures { λ r. ⌜ r ≡ faultAt (lowest (max (length (statesIn (fields (now (sheet .entry))))) (length (now (states .entry)))) (differ (statesIn (fields (now (sheet .entry)))) (now (states .entry)))) ⌝ }
+    ensures { λ r. ⌜ faultAnswer 11 r ≡ refusedAt 11 (lowest (max (length (statesIn (fields (now (sheet .entry))))) (length (now (states .entry)))) (differ (statesIn (fields (now (sheet .entry)))) (now (states .entry)))) accepted ⌝ }
 {
     let mut at: usize = 0;
     let mut i: usize = 0;

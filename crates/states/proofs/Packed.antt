@@ -5,12 +5,13 @@ use mathlib.Core.Bool.{Bool, true, false, cond}
 use mathlib.Core.List.{List, [], _∷_, _++_, append-assoc}
 use native.Mathlib.Numerals.{add-one}
 use native.Mathlib.Omega.{arith}
-use lib.Dec.{leb}
+use lib.Dec.{leb, ltb}
 use lib.ListN.{length, take, drop, replicate, length-append, length-take, length-drop, length-replicate}
 use lib.Seq.{take-append-le, drop-append-le, drop-append-add, take-at}
-use borrow.Author.Tests.{le-leb, lt-leb, leb-true, leb-false}
+use borrow.Author.Tests.{le-leb, lt-leb, leb-true, leb-false, lt-ltb, le-ltb}
 use Rattle.meaning.specs.Limits.{mostStates}
-use Rattle.states.specs.Packed.{putAt, paddedStates, Holds, packed, overfull, countOf}
+use Rattle.meaning.specs.Refusals.{refuseIf}
+use Rattle.states.specs.Packed.{putAt, paddedStates, Holds, packed, overfull, countOf, countAnswer}
 use Rattle.states.specs.declared.Count.the-variants.{Known, TooMany}
 use Rattle.states.specs.declared.States.{States}
 
@@ -73,6 +74,17 @@ packed-known l h = simp (le-leb (length l) mostStates h)
 pub packed-many : (l : List ℕ) → mostStates < length l → packed l ≡ overfull
 unfolding packed
 packed-many l h = simp (lt-leb (length l) mostStates h)
+
+-- 8 where there are too many, else no refusal
+pub packed-answer : {r : States} (l : List ℕ) → r ≡ packed l → (k : ℕ) → countAnswer k (r .count) ≡ refuseIf (ltb mostStates (length l)) 8 k
+unfolding packed
+packed-answer {r} l e k = ap (λ (x : States). countAnswer k (x .count)) e ∙ go (leb (length l) mostStates) refl
+  where
+    go : (b : Bool)
+        → leb (length l) mostStates ≡ b
+        → countAnswer k (cond b (record { count = Known (length l); sets = paddedStates l }) overfull .count) ≡ refuseIf (ltb mostStates (length l)) 8 k
+    go true t = rw (le-ltb mostStates (length l) (leb-true (length l) mostStates t)) refl
+    go false t = rw (lt-ltb mostStates (length l) (leb-false (length l) mostStates t)) refl
 
 pub known-is : {r : States} (l : List ℕ) {k : ℕ} → r ≡ packed l → r .count ≡ Known k → (k ≡ length l) × (length l ≤ mostStates) × (r .sets ≡ paddedStates l)
 unfolding packed

@@ -8,6 +8,7 @@ use lib.ListN.{length, take, drop, replicate}
 use Rattle.meaning.specs.Lists.{padded}
 use Rattle.meaning.specs.Limits.{mostStates}
 use Rattle.meaning.specs.States.{indexOf}
+use Rattle.meaning.specs.Refusals.{Answer, refused, accepted}
 use Rattle.states.specs.declared.Count.{Count}
 use Rattle.states.specs.declared.Count.the-variants.{Known, TooMany}
 use Rattle.states.specs.declared.States.{States}
@@ -44,6 +45,11 @@ countKnown TooMany = 0
 
 abbrev pub countOf : States → ℕ
 countOf r = countKnown (r .count)
+
+-- the number and place of 01 for each case of a count: 8 at the field count where there are too many
+abbrev pub countAnswer : ℕ → Count → Answer
+countAnswer fieldCount (Known n) = accepted
+countAnswer fieldCount TooMany = refused 8 fieldCount
 
 -- the numbers of some sets among the states
 unfoldable pub indices : List ℕ → List ℕ → List ℕ

@@ -1,17 +1,20 @@
 // The states of a rule file, rising, or that there are more than 16; and the tables over them.
-ghost use Prim.Native.Nat.{_+_, _-_, _≤_, _<_};
+use automaton::TypeSet;
+ghost use Prim.Native.Nat.{ℕ, _+_, _-_, _≤_, _<_};
 ghost use mathlib.Core.Path.{_≡_};
 ghost use mathlib.Core.List.{_++_};
+ghost use lib.Dec.{ltb};
 ghost use lib.ListN.{length, take, drop};
 ghost use Rattle.meaning.specs.Limits.{mostStates};
 ghost use Rattle.meaning.specs.Types.{step, signature};
 ghost use Rattle.meaning.specs.Cells.{cells};
 ghost use Rattle.meaning.specs.States.{insertRising, insertAll, indexOf, grow, tables};
+ghost use Rattle.meaning.specs.Refusals.{refuseIf};
 ghost use Rattle.meaning.specs.Files.{statesFor};
 ghost use Rattle.fields.specs.Found.{contentsFrom};
 ghost use Rattle.automaton.specs.Marking.{AreProductions};
 ghost use Rattle.states.specs.Asked.{Limited, productionsAt};
-ghost use Rattle.states.specs.Packed.{placeFor, putAt, Holds, packed, overfull, countOf, indices};
+ghost use Rattle.states.specs.Packed.{placeFor, putAt, Holds, packed, overfull, countOf, countAnswer, indices};
 
 // The most states.
 const MOST: usize = 16;
@@ -42,13 +45,13 @@ pub fn count_of(states: States) -> usize
     }
 }
 
-// The first place with a number that is not below s.
-fn place(states: &[u16], s: u16) -> usize
-    ensures { λ r. ⌜ r ≡ placeFor s (now (states .entry)) ⌝ }
+// The first place with a set whose number is not below that of s.
+fn place(states: &[u16], s: TypeSet) -> usize
+    ensures { λ r. ⌜ r ≡ placeFor (s .bits) (now (states .entry)) ⌝ }
 {
     let mut i = 0;
     while i < states.len() {
-        if s <= states[i] {
+        if s.bits <= states[i] {
             return i;
         }
         i += 1;
@@ -57,12 +60,12 @@ fn place(states: &[u16], s: u16) -> usize
 }
 
 // s put at place i, and those from there to place n moved one place on.
-fn shift(sets: [u16; MOST], i: usize, n: usize, s: u16) -> [u16; MOST]
+fn shift(sets: [u16; MOST], i: usize, n: usize, s: TypeSet) -> [u16; MOST]
     requires { ⌜ (i ≤ n) × (n < mostStates) ⌝ }
-    ensures { λ r. ⌜ r ≡ putAt sets i n s ⌝ }
+    ensures { λ r. ⌜ r ≡ putAt sets i n (s .bits) ⌝ }
 {
     let mut more = sets;
-    let mut next = s;
+    let mut next = s.bits;
     let mut j = i;
     while j < n {
         let moved = more[j];
@@ -85,14 +88,14 @@ fn too_many() -> States
 }
 
 // s put into the first n, once; they rise.
-fn put(sets: [u16; MOST], n: usize, s: u16) -> States
+fn put(sets: [u16; MOST], n: usize, s: TypeSet) -> States
     requires { ⌜ Holds sets n ⌝ }
-    ensures { λ r. ⌜ r ≡ packed (insertRising s (take n sets)) ⌝ }
+    ensures { λ r. ⌜ r ≡ packed (insertRising (s .bits) (take n sets)) ⌝ }
 {
     let known = sets;
     let i = place(&known[..n], s);
     if i < n {
-        if known[i] == s {
+        if known[i] == s.bits {
             return States {
                 count: Count::Known(n),
                 sets,
@@ -119,7 +122,7 @@ fn put_all(sets: [u16; MOST], n: usize, new: &[u16]) -> States
     let mut i = new.len();
     while 0 < i {
         i -= 1;
-        let more = put(known, count, new[i]);
+        let more = put(known, count, TypeSet { bits: new[i] });
         let found = more.count;
         match found {
             Count::Known(k) => {
@@ -160,7 +163,8 @@ fn turn(
 pub fn determinise(file: &[u8], from: usize, count: u8, arities: &[u8], types: u8) -> States
     requires { ⌜ Limited (now arities) types ⌝ }
     requires { ⌜ AreProductions types (now arities) count (contentsFrom count (drop from (now file))) ⌝ }
-    ensures { λ r. ⌜ r ≡ packed (statesFor (now (arities .entry)) types (productionsAt (now (file .entry)) from count)) ⌝ }
+    ensures states { λ r. ⌜ r ≡ packed (statesFor (now (arities .entry)) types (productionsAt (now (file .entry)) from count)) ⌝ }
+    ensures eight { λ r. ⌜ ((k : ℕ) → countAnswer k (r .count) ≡ refuseIf (ltb mostStates (length (statesFor (now (arities .entry)) types (productionsAt (now (file .entry)) from count)))) 8 k) ⌝ }
 {
     let mut known = [0u16; MOST];
     let mut n: usize = 0;
@@ -181,12 +185,12 @@ pub fn determinise(file: &[u8], from: usize, count: u8, arities: &[u8], types: u
 }
 
 // The number of a set among the states, their count if it is none of them.
-fn find(states: &[u16], s: u16) -> usize
-    ensures { λ r. ⌜ r ≡ indexOf s (now (states .entry)) ⌝ }
+fn find(states: &[u16], s: TypeSet) -> usize
+    ensures { λ r. ⌜ r ≡ indexOf (s .bits) (now (states .entry)) ⌝ }
 {
     let mut i = 0;
     while i < states.len() {
-        if states[i] == s {
+        if states[i] == s.bits {
             return i;
         }
         i += 1;
@@ -201,7 +205,7 @@ fn write_indices(tables: &mut [u8], states: &[u16], sets: &[u16])
 {
     let mut i = 0;
     while i < sets.len() {
-        let d = find(states, sets[i]);
+        let d = find(states, TypeSet { bits: sets[i] });
         tables[i] = d as u8;
         i += 1;
     }

@@ -1,6 +1,6 @@
 -- Bytes that stand in a listing at a place, and a listing that is the pieces one after the other. Assumes nothing.
 use Prim.Native.Nat.{ℕ, _+_, _-_, _≤_, _<_}
-use mathlib.Core.Path.{_≡_, refl, sym, ap, ap₂, subst, _∙_}
+use mathlib.Core.Path.{_≡_, refl, sym, ap, subst, _∙_}
 use mathlib.Core.Logic.{_≢_}
 use mathlib.Core.Bool.{Bool, true, false, not, _&&_}
 use mathlib.Core.List.{List, _++_}
@@ -13,15 +13,15 @@ use borrow.Author.Tests.{lt-leb, le-leb, eqb-true, eqb-false}
 use Rattle.meaning.specs.Lists.{same, joined, table}
 use Rattle.meaning.specs.Refusals.{Answer, accepted, andThen, refuseIf}
 use Rattle.meaning.specs.Files.{fileAnswer}
-use Rattle.meaning.specs.Calls.{Buffers, Analysed, longEnough, analysisAnswer, analysed}
+use Rattle.meaning.specs.Calls.{Buffers, longEnough, analysisAnswer, analysed}
 use Rattle.meaning.proofs.Lists.{both, T-of, same-eq}
 use Rattle.meaning.proofs.Answers.{then-next, then-first}
-use Rattle.text.proofs.Pasted.{take-pasted}
 use Rattle.text.specs.Pasted.{Put}
-use Rattle.lines.specs.Lines.{refusedLine}
+use Rattle.lines.specs.Lines.{refusedLine, refusalText}
 use Rattle.lines.specs.Listing.{listing, pieces, piece}
 use Rattle.lines.proofs.Pieces.{listing-pieces, pieces-next, listing-refused}
 use Rattle.accept.specs.Accepted.{answered}
+use Rattle.listing_answer.proofs.Texts.{text-is, answer-is, line-text}
 use Rattle.analysis.specs.Given.{given}
 use Rattle.analysis.specs.declared.Analysis.{Analysis}
 use Rattle.vectors.specs.Expected.{standsAt}
@@ -45,11 +45,6 @@ module _ (s : List ℕ) (from : ℕ) (bytes : List ℕ) where
         take-add from (length bytes) s ∙ ap (λ (l : List ℕ). take from s ++ l) (same-eq (take (length bytes) (drop from s)) bytes (w .1)),
       )
 
--- what was put at the start of a buffer
-pub put-front : (out bytes : List ℕ) {after : List ℕ} {n : ℕ} → Put out 0 bytes after n → take n after ≡ bytes
-put-front out bytes {after} {n} put =
-    ap₂ (λ (k : ℕ) (l : List ℕ). take k l) (put .1) (put .0) ∙ take-pasted out 0 bytes (omega arith)
-
 module _ (file s : List ℕ) (from k : ℕ) (front : take from s ≡ joined (table k (piece file))) where
   -- a piece that was put stands in the listing after the pieces before it
   pub piece-stands : (out : List ℕ) {after : List ℕ} {n : ℕ}
@@ -57,7 +52,7 @@ module _ (file s : List ℕ) (from k : ℕ) (front : take from s ≡ joined (tab
       → standsAt s from (take n after) ≡ true
       → (from + n ≤ length s) × (take (from + n) s ≡ joined (table (k + 1) (piece file)))
   piece-stands out {after} {n} put e =
-      let w = stands-next s from (piece file k) (ap (standsAt s from) (sym (put-front out (piece file k) put)) ∙ e) in (
+      let w = stands-next s from (piece file k) (ap (standsAt s from) (sym (text-is out (piece file k) put)) ∙ e) in (
         omega (arith, w .0, put .1),
         ap (λ (j : ℕ). take (from + j) s) (put .1 ∙ zero-add (length (piece file k))) ∙ w .1 ∙ ap (λ (l : List ℕ). l ++ piece file k) front ∙ sym (pieces-next file k),
       )
@@ -73,19 +68,24 @@ module _ (file s : List ℕ) (from k : ℕ) (front : take from s ≡ joined (tab
 -- a refusal other than 9 is that of the file
 module _ (file : List ℕ) (before after : Buffers) (r : Analysis) (is : given r after ≡ analysed file before) where
   refusal-is : answered (r .answer) ≡ andThen (fileAnswer file) (refuseIf (not (longEnough file before)) 9 0)
-  unfolding analysed analysisAnswer
-  refusal-is = ap (λ (a : Analysed). a .answer) is
+  unfolding analysisAnswer
+  refusal-is = answer-is file before after r is
 
   pub refused-is : r .answer .number ≢ 0
+      → (text : List ℕ)
+      → text ≡ refusalText (analysisAnswer file before)
       → (s : List ℕ)
       → (b : Bool)
-      → b ≡ (not (eqb (r .answer .number) 9) && same (refusedLine (answered (r .answer))) s)
+      → b ≡ (not (eqb (r .answer .number) 9) && same text s)
       → b ≡ true
       → s ≡ listing file
-  refused-is h s b told e =
-      let tests = both (not (eqb (r .answer .number) 9)) (same (refusedLine (answered (r .answer))) s) (T-of _ (sym told ∙ e)) in
+  refused-is h text is-text s b told e =
+      let tests = both (not (eqb (r .answer .number) 9)) (same text s) (T-of _ (sym told ∙ e)) in
       let file-is = file-refused (eqb (fileAnswer file .number) 0) refl (tests .0) in
-      sym (same-eq (refusedLine (answered (r .answer))) s (tests .1))
+      sym (same-eq text s (tests .1))
+      ∙ is-text
+      ∙ ap refusalText (sym (answer-is file before after r is))
+      ∙ line-text (answered (r .answer)) h
       ∙ ap refusedLine file-is
       ∙ sym (listing-refused file (λ z. h (ap (λ (a : Answer). a .number) file-is ∙ z)))
     where

@@ -10,10 +10,8 @@ ghost use lib.Dec.{eqb};
 ghost use lib.ListN.{length, getD};
 ghost use Rattle.meaning.specs.Lists.{same};
 ghost use Rattle.meaning.specs.Fields.{word};
-ghost use Rattle.meaning.specs.Refusals.{refused};
 ghost use Rattle.meaning.specs.Calls.{roundsOf, atomsOf};
 ghost use Rattle.refusals.specs.Known.{Knows, fieldsRead};
-ghost use Rattle.lines.specs.Lines.{refusedLine};
 ghost use Rattle.lines.specs.Listing.{listing, Results};
 ghost use Rattle.analysis.specs.Given.{Filled};
 ghost use Rattle.vectors.specs.Expected.{standsAt, IsSheet};
@@ -143,13 +141,11 @@ fn are_results(
     )
 }
 
-// Whether a listing is a refusal and nothing else. One with 9 is about the buffers, and stands in no listing.
-fn is_refused(number: usize, place: usize, expected: &[u8], out: &mut [u8]) -> bool
-    requires { ⌜ 128 ≤ length (now out) ⌝ }
-    ensures { λ r. ⌜ r ≡ (not (eqb number 9) && same (refusedLine (refused number place)) (now (expected .entry))) ⌝ }
+// Whether a listing is the text of a refusal. One with 9 is about the buffers, and stands in no listing.
+fn is_refusal(number: usize, text: &[u8], expected: &[u8]) -> bool
+    ensures { λ r. ⌜ r ≡ (not (eqb number 9) && same (now (text .entry)) (now (expected .entry))) ⌝ }
 {
-    let n = lines::put_refusal(out, 0, number, place);
-    (number != 9) & names::same(&out[..n], expected)
+    (number != 9) & names::same(text, expected)
 }
 
 // Whether a listing is that of a file, by its analysis in the lent buffers.
@@ -165,10 +161,12 @@ fn is_listing(
     requires { ⌜ 128 ≤ length (now out) ⌝ }
     ensures { λ r. ⌜ (r ≡ true → now (expected .entry) ≡ listing (now (file .entry))) ⌝ }
 {
-    let r = analysis::analyse(file, states, tables, marks, verdicts);
+    let answered = listing_answer::answer(file, states, tables, marks, verdicts, out);
+    let n = answered.text;
+    let r = answered.analysis;
     let answer = r.answer;
     if answer.number != 0 {
-        return is_refused(answer.number, answer.place, expected, out);
+        return is_refusal(answer.number, &out[..n], expected);
     }
     are_results(
         file,

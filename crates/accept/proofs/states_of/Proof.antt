@@ -7,6 +7,7 @@ use Rattle.meaning.specs.Files.{statesFor}
 use Rattle.automaton.specs.Marking.{AreProductions}
 use Rattle.states.specs.Asked.{Limited, productionsAt}
 use Rattle.states.specs.Packed.{packed}
+use Rattle.states.proofs.Packed.{packed-answer}
 use Rattle.refusals.specs.Tests.{earlierIn}
 use Rattle.accept.proofs.Ready.{symbols-fit, limited, productions, states-are}
 use borrow.Author.Needs.{needs}
@@ -53,10 +54,13 @@ returns c =
     let x = c .before .before .before .before .before .before .before in
     let file = x .args .file .now in
     let known = x .args .known in
-    c .determinise .ensures
+    let e =
+    c .determinise .ensures .0
     ∙ ap packed
     (ap (λ (n : ℕ). statesFor (take n (known .symbols)) (getD (known .counts) 2 0) (productionsAt file (getD (known .starts) 3 0) (getD (known .counts) 3 0))) (c .before .before .wide .ensures .0)
     ∙ states-are file known (x .pre .0) (x .pre .1))
+    in
+    (e, packed-answer _ e)
 
 pub states-of-spec : {M : Type 1} → statement M
 states-of-spec =

@@ -13,7 +13,7 @@ use Rattle.automaton.proofs.mark.Reads as mark
 use Rattle.automaton.proofs.mark.Kinds as mark-kinds
 use Rattle.automaton.proofs.+mark.Lts-mark as mark-lts
 use Rattle.automaton.proofs.TypeSet.has.Reads as has-reads
-use Rattle.automaton.proofs.TypeSet.with.Reads as with-reads
+use Rattle.automaton.proofs.TypeSet.join.Reads as join-reads
 use Rattle.automaton.proofs.+mark.{statement}
 use Rattle.automaton.proofs.+mark.Tie.{close}
 
@@ -27,15 +27,15 @@ abbrev mark-below : ℕ → In 3 mark-kinds.ps
 mark-below t = and 3 mark-kinds.ps (falls 3 mark-kinds.ps _<_ μ-mark t) mark.Pre
 
 abbrev mark-Inv-loop : mark-lts.InvT-loop
-mark-Inv-loop sets₀ start states content i cell target d₀ sets d =
-    (d ≤ length states) × (sets ≡ markTo states start target (getD content i 0) (drop (i + 1) content) cell sets₀ d)
+mark-Inv-loop sets₀ start states content i cell more d₀ sets d =
+    (d ≤ length states) × (sets ≡ markTo states start (more .bits) (getD content i 0) (drop (i + 1) content) cell sets₀ d)
 
 abbrev mark-μ-loop : mark-lts.MeasureT-loop
-mark-μ-loop sets₀ start states content i cell target d₀ sets d = length states - d
+mark-μ-loop sets₀ start states content i cell more d₀ sets d = length states - d
 
 mark-add-at : (t : ℕ) → mark-lts.Need-add-at (
-  with-reads.Asked,
-  with-reads.Learnt,
+  join-reads.Asked,
+  join-reads.Learnt,
   has-reads.Asked,
   has-reads.Learnt,
   mark-below t,
@@ -47,8 +47,8 @@ mark-add-at t c =
     omega (arith, end-inside (a .content .now) (a .i) (start .pre .1) (c .if1 .taken))
 
 mark-mul-t14 : (t : ℕ) → mark-lts.Need-mul-t14 (
-  with-reads.Asked,
-  with-reads.Learnt,
+  join-reads.Asked,
+  join-reads.Learnt,
   has-reads.Asked,
   has-reads.Learnt,
   mark-below t,
@@ -60,8 +60,8 @@ mark-mul-t14 t c =
     omega (arith, end-inside (a .content .now) (a .i) (start .pre .1) (c .if1 .taken))
 
 mark-slice-read-t16 : (t : ℕ) → mark-lts.Need-slice-read-t16 (
-  with-reads.Asked,
-  with-reads.Learnt,
+  join-reads.Asked,
+  join-reads.Learnt,
   has-reads.Asked,
   has-reads.Learnt,
   mark-below t,
@@ -72,19 +72,19 @@ mark-slice-read-t16 t c =
     let a = start .args in
     end-inside (a .content .now) (a .i) (start .pre .1) (c .before .if1 .taken)
 
-mark-with-requires : (t : ℕ) → mark-lts.Need-with-requires (
-  with-reads.Asked,
-  with-reads.Learnt,
+mark-join-requires : (t : ℕ) → mark-lts.Need-join-requires (
+  join-reads.Asked,
+  join-reads.Learnt,
   has-reads.Asked,
   has-reads.Learnt,
   mark-below t,
   mark.Post,
 ) (mark-at t) mark.Post mark-Inv-loop mark-μ-loop
-mark-with-requires t c κs = c .before .before .before .before .before .pre .1 .low
+mark-join-requires t c κs = search needs
 
 mark-mul-sets : (t : ℕ) → mark-lts.Need-mul-sets (
-  with-reads.Asked,
-  with-reads.Learnt,
+  join-reads.Asked,
+  join-reads.Learnt,
   has-reads.Asked,
   has-reads.Learnt,
   mark-below t,
@@ -96,8 +96,8 @@ mark-mul-sets t c =
     omega (arith, end-inside (a .content .now) (a .i) (start .pre .1) (c .before .before .if1 .taken))
 
 mark-slice-write-sets : (t : ℕ) → mark-lts.Need-slice-write-sets (
-  with-reads.Asked,
-  with-reads.Learnt,
+  join-reads.Asked,
+  join-reads.Learnt,
   has-reads.Asked,
   has-reads.Learnt,
   mark-below t,
@@ -109,8 +109,8 @@ mark-slice-write-sets t c =
     end-inside (a .content .now) (a .i) (start .pre .1) (c .before .before .if1 .taken)
 
 mark-same-length : (t : ℕ) → mark-lts.Need-same-length (
-  with-reads.Asked,
-  with-reads.Learnt,
+  join-reads.Asked,
+  join-reads.Learnt,
   has-reads.Asked,
   has-reads.Learnt,
   mark-below t,
@@ -119,8 +119,8 @@ mark-same-length : (t : ℕ) → mark-lts.Need-same-length (
 mark-same-length t c = search needs
 
 mark-returns : (t : ℕ) → mark-lts.Need-returns (
-  with-reads.Asked,
-  with-reads.Learnt,
+  join-reads.Asked,
+  join-reads.Learnt,
   has-reads.Asked,
   has-reads.Learnt,
   mark-below t,
@@ -129,11 +129,11 @@ mark-returns : (t : ℕ) → mark-lts.Need-returns (
 mark-returns t c =
     let start = c .before .before .before .before .before .before in
     let a = start .args in
-    mark-end (a .states .now) (a .start) (a .target) (a .content .now) (a .i) (a .cell) (a .sets .now) (c .before .before .if1 .taken) (c .with .ensures)
+    mark-end (a .states .now) (a .start) (a .more .bits) (a .content .now) (a .i) (a .cell) (a .sets .now) (c .before .before .if1 .taken) (c .join .ensures)
 
 mark-loop-holds : (t : ℕ) → mark-lts.Need-loop-holds (
-  with-reads.Asked,
-  with-reads.Learnt,
+  join-reads.Asked,
+  join-reads.Learnt,
   has-reads.Asked,
   has-reads.Learnt,
   mark-below t,
@@ -142,8 +142,8 @@ mark-loop-holds : (t : ℕ) → mark-lts.Need-loop-holds (
 mark-loop-holds t c = (omega arith, to-zero _ _ _ _ _ _ _)
 
 mark-mul-t19 : (t : ℕ) → mark-lts.Need-mul-t19 (
-  with-reads.Asked,
-  with-reads.Learnt,
+  join-reads.Asked,
+  join-reads.Learnt,
   has-reads.Asked,
   has-reads.Learnt,
   mark-below t,
@@ -152,8 +152,8 @@ mark-mul-t19 : (t : ℕ) → mark-lts.Need-mul-t19 (
 mark-mul-t19 t c = search needs
 
 mark-shared-slice-read-t22 : (t : ℕ) → mark-lts.Need-shared-slice-read-t22 (
-  with-reads.Asked,
-  with-reads.Learnt,
+  join-reads.Asked,
+  join-reads.Learnt,
   has-reads.Asked,
   has-reads.Learnt,
   mark-below t,
@@ -162,8 +162,8 @@ mark-shared-slice-read-t22 : (t : ℕ) → mark-lts.Need-shared-slice-read-t22 (
 mark-shared-slice-read-t22 t c = omega arith
 
 mark-shared-slice-read-has : (t : ℕ) → mark-lts.Need-shared-slice-read-has (
-  with-reads.Asked,
-  with-reads.Learnt,
+  join-reads.Asked,
+  join-reads.Learnt,
   has-reads.Asked,
   has-reads.Learnt,
   mark-below t,
@@ -172,8 +172,8 @@ mark-shared-slice-read-has : (t : ℕ) → mark-lts.Need-shared-slice-read-has (
 mark-shared-slice-read-has t c = omega arith
 
 mark-has-requires : (t : ℕ) → mark-lts.Need-has-requires (
-  with-reads.Asked,
-  with-reads.Learnt,
+  join-reads.Asked,
+  join-reads.Learnt,
   has-reads.Asked,
   has-reads.Learnt,
   mark-below t,
@@ -185,8 +185,8 @@ mark-has-requires t c κs =
     asked-low (a .content .now) (a .i) (start .pre .1) (omega arith)
 
 mark-add-mark : (t : ℕ) → mark-lts.Need-add-mark (
-  with-reads.Asked,
-  with-reads.Learnt,
+  join-reads.Asked,
+  join-reads.Learnt,
   has-reads.Asked,
   has-reads.Learnt,
   mark-below t,
@@ -195,8 +195,8 @@ mark-add-mark : (t : ℕ) → mark-lts.Need-add-mark (
 mark-add-mark t c = omega arith
 
 mark-mul-mark : (t : ℕ) → mark-lts.Need-mul-mark (
-  with-reads.Asked,
-  with-reads.Learnt,
+  join-reads.Asked,
+  join-reads.Learnt,
   has-reads.Asked,
   has-reads.Learnt,
   mark-below t,
@@ -209,8 +209,8 @@ mark-mul-mark t c =
     omega (arith, next-inside (a .content .now) (a .i) (start .pre .1) (omega arith) (loop .d) (omega arith))
 
 mark-add-mark-2 : (t : ℕ) → mark-lts.Need-add-mark-2 (
-  with-reads.Asked,
-  with-reads.Learnt,
+  join-reads.Asked,
+  join-reads.Learnt,
   has-reads.Asked,
   has-reads.Learnt,
   mark-below t,
@@ -223,8 +223,8 @@ mark-add-mark-2 t c =
     omega (arith, next-inside (a .content .now) (a .i) (start .pre .1) (omega arith) (loop .d) (omega arith))
 
 mark-mark-requires : (t : ℕ) → mark-lts.Need-mark-requires (
-  with-reads.Asked,
-  with-reads.Learnt,
+  join-reads.Asked,
+  join-reads.Learnt,
   has-reads.Asked,
   has-reads.Learnt,
   mark-below t,
@@ -234,11 +234,11 @@ mark-mark-requires t c κs =
     let start = c .before .before .before .before .before .before .before .before .before .before .before in
     let a = start .args in
     let loop = c .before .before .before .before .before .before .loop in
-    (omega arith, deeper (a .content .now) (a .i) (start .pre .1) (omega arith) (loop .d) (loop .sets) (omega arith) (ap length (loop .inv .1) ∙ length-markTo (a .states .now) (a .start) (a .target) (getD (a .content .now) (a .i) 0) (drop (a .i + 1) (a .content .now)) (a .cell) (a .sets .now) (loop .d)))
+    (omega arith, deeper (a .content .now) (a .i) (start .pre .1) (omega arith) (loop .d) (loop .sets) (omega arith) (ap length (loop .inv .1) ∙ length-markTo (a .states .now) (a .start) (a .more .bits) (getD (a .content .now) (a .i) 0) (drop (a .i + 1) (a .content .now)) (a .cell) (a .sets .now) (loop .d)))
 
 mark-add-d : (t : ℕ) → mark-lts.Need-add-d (
-  with-reads.Asked,
-  with-reads.Learnt,
+  join-reads.Asked,
+  join-reads.Learnt,
   has-reads.Asked,
   has-reads.Learnt,
   mark-below t,
@@ -247,8 +247,8 @@ mark-add-d : (t : ℕ) → mark-lts.Need-add-d (
 mark-add-d t c = omega arith
 
 mark-loop-less : (t : ℕ) → mark-lts.Need-loop-less (
-  with-reads.Asked,
-  with-reads.Learnt,
+  join-reads.Asked,
+  join-reads.Learnt,
   has-reads.Asked,
   has-reads.Learnt,
   mark-below t,
@@ -257,8 +257,8 @@ mark-loop-less : (t : ℕ) → mark-lts.Need-loop-less (
 mark-loop-less t c = omega arith
 
 mark-loop-again : (t : ℕ) → mark-lts.Need-loop-again (
-  with-reads.Asked,
-  with-reads.Learnt,
+  join-reads.Asked,
+  join-reads.Learnt,
   has-reads.Asked,
   has-reads.Learnt,
   mark-below t,
@@ -270,14 +270,14 @@ mark-loop-again t c =
     let loop = c .before .before .before .before .before .loop in (
       omega arith,
       ⊎-elim
-          (λ w. w .5 ∙ (w .2 .ensures ∙ to-more (a .states .now) (a .start) (a .target) (getD (a .content .now) (a .i) 0) (drop (a .i + 1) (a .content .now)) (a .cell) (a .sets .now) (loop .d) (c .before .has .ensures) (w .0 .taken) (loop .inv .1)))
-          (λ w. w .1 ∙ to-same (a .states .now) (a .start) (a .target) (getD (a .content .now) (a .i) 0) (drop (a .i + 1) (a .content .now)) (a .cell) (a .sets .now) (loop .d) (c .before .has .ensures) (w .0 .left) (loop .inv .1))
+          (λ w. w .5 ∙ (w .2 .ensures ∙ to-more (a .states .now) (a .start) (a .more .bits) (getD (a .content .now) (a .i) 0) (drop (a .i + 1) (a .content .now)) (a .cell) (a .sets .now) (loop .d) (c .before .has .ensures) (w .0 .taken) (loop .inv .1)))
+          (λ w. w .1 ∙ to-same (a .states .now) (a .start) (a .more .bits) (getD (a .content .now) (a .i) 0) (drop (a .i + 1) (a .content .now)) (a .cell) (a .sets .now) (loop .d) (c .before .has .ensures) (w .0 .left) (loop .inv .1))
           (c .if2 .came),
     )
 
 mark-same-length-2 : (t : ℕ) → mark-lts.Need-same-length-2 (
-  with-reads.Asked,
-  with-reads.Learnt,
+  join-reads.Asked,
+  join-reads.Learnt,
   has-reads.Asked,
   has-reads.Learnt,
   mark-below t,
@@ -287,11 +287,11 @@ mark-same-length-2 t c =
     let start = c .before .before .before .before .before .before in
     let a = start .args in
     let loop = c .before .loop in
-    ap length (loop .inv .1) ∙ length-markTo (a .states .now) (a .start) (a .target) (getD (a .content .now) (a .i) 0) (drop (a .i + 1) (a .content .now)) (a .cell) (a .sets .now) (loop .d)
+    ap length (loop .inv .1) ∙ length-markTo (a .states .now) (a .start) (a .more .bits) (getD (a .content .now) (a .i) 0) (drop (a .i + 1) (a .content .now)) (a .cell) (a .sets .now) (loop .d)
 
 mark-returns-2 : (t : ℕ) → mark-lts.Need-returns-2 (
-  with-reads.Asked,
-  with-reads.Learnt,
+  join-reads.Asked,
+  join-reads.Learnt,
   has-reads.Asked,
   has-reads.Learnt,
   mark-below t,
@@ -301,12 +301,12 @@ mark-returns-2 t c =
     let start = c .before .before .before .before .before .before in
     let a = start .args in
     let loop = c .before .loop in
-    loop .inv .1 ∙ to-all (a .states .now) (a .start) (a .target) (a .content .now) (a .i) (a .cell) (a .sets .now) (loop .d) (omega arith) (omega arith)
+    loop .inv .1 ∙ to-all (a .states .now) (a .start) (a .more .bits) (a .content .now) (a .i) (a .cell) (a .sets .now) (loop .d) (omega arith) (omega arith)
 
 pub +mark-spec : {M : Type 1} → statement M
 +mark-spec = close μ-mark λ t. mark-lts.spec (
-  with-reads.Asked,
-  with-reads.Learnt,
+  join-reads.Asked,
+  join-reads.Learnt,
   has-reads.Asked,
   has-reads.Learnt,
   mark-below t,
@@ -319,7 +319,7 @@ pub +mark-spec : {M : Type 1} → statement M
     (mark-add-at t)
     (mark-mul-t14 t)
     (mark-slice-read-t16 t)
-    (mark-with-requires t)
+    (mark-join-requires t)
     (mark-mul-sets t)
     (mark-slice-write-sets t)
     (mark-same-length t)

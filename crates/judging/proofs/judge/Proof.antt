@@ -2,6 +2,7 @@
 use Prim.Native.Nat.{max}
 use mathlib.Core.Path.{_≡_, refl, sym, _∙_}
 use mathlib.Core.Option.{none}
+use lib.Dec.{lit<}
 use lib.ListN.{length}
 use Rattle.meaning.specs.Lists.{lowest}
 use Rattle.meaning.specs.Limits.{atomTag}
@@ -16,13 +17,13 @@ use Rattle.judging.proofs.judge.Tie as tie
 
 -- 10, 11 and 12 do not fit
 none10 : (c : tie.After-enum-told) → firstField (misplaced (c .before .before .before .before .before .before .before .before .before .before .before .before .args .preds .now)) (fields (c .before .before .before .before .before .before .before .before .before .before .before .before .args .sheet .now)) ≡ none
-none10 c = nowhere (c .before .before .first-misplaced .ensures) (c .enum-told .given .1)
+none10 c = nowhere (lit< tt) (c .before .before .first-misplaced .ensures) (c .enum-told .given .1)
 
 none11 : (c : tie.After-enum-told2) → lowest (max (length (statesIn (fields (c .before .before .before .before .before .before .before .before .before .before .before .before .before .before .before .args .sheet .now)))) (length (c .before .before .before .before .before .before .before .before .before .before .before .before .before .before .before .args .found .now))) (differ (statesIn (fields (c .before .before .before .before .before .before .before .before .before .before .before .before .before .before .before .args .sheet .now))) (c .before .before .before .before .before .before .before .before .before .before .before .before .before .before .before .args .found .now)) ≡ none
-none11 c = nowhere (c .before .before .first-difference .ensures) (c .enum-told2 .given .1)
+none11 c = nowhere (lit< tt) (c .before .before .first-difference .ensures) (c .enum-told2 .given .1)
 
 none12 : (c : tie.After-enum-told3) → firstField (wrongAtom (length (c .before .before .before .before .before .before .before .before .before .before .before .before .before .before .before .before .before .before .before .before .before .args .found .now))) (fields (c .before .before .before .before .before .before .before .before .before .before .before .before .before .before .before .before .before .before .before .before .before .args .sheet .now)) ≡ none
-none12 c = nowhere (c .before .before .before .before .mark-atoms .ensures .0) (c .enum-told3 .given .1)
+none12 c = nowhere (lit< tt) (c .before .before .before .before .mark-atoms .ensures .0) (c .enum-told3 .given .1)
 
 holding : (c : tie.After-enum-told3) → Holding (length (c .before .before .before .before .before .before .before .before .before .before .before .before .before .before .before .before .before .before .before .before .before .args .found .now)) (c .before .before .before .before .before .before .before .before .before .before .before .before .before .before .before .before .before .before .before .before .before .args .preds .now) (contentsOf atomTag (fields (c .before .before .before .before .before .before .before .before .before .before .before .before .before .before .before .before .before .before .before .before .before .args .sheet .now))) (c .before .before .before .before .mark-atoms .last .1 .0)
 holding c = c .before .before .before .before .mark-atoms .ensures .1 .1 (none12 c)
@@ -39,7 +40,7 @@ refusal-requires c κs = search needs
 returns : tie.Need-returns
 returns c =
     let x = c .before .before .before .before .before .before .before .before .before .before .before .before .before .before in
-    (ends-ten (x .pre .0) (x .pre .1) (x .args .sheet .now) (somewhere (c .before .before .before .before .first-misplaced .ensures) (c .before .before .k .given .1)) (c .refusal .ensures), refl)
+    (ends-ten (x .pre .0) (x .pre .1) (x .args .sheet .now) (somewhere (lit< tt) (c .before .before .before .before .first-misplaced .ensures) (c .before .before .k .given .1)) (c .refusal .ensures), refl)
 
 enum-told : tie.Need-enum-told
 enum-told c = search needs
@@ -56,7 +57,7 @@ refusal-requires-2 c κs = search needs
 returns-2 : tie.Need-returns-2
 returns-2 c =
     let x = c .before .before .before .before .before .before .before .before .before .before .before .before .before .before .before .before .before in
-    (ends-eleven (x .pre .0) (x .pre .1) (x .args .sheet .now) (none10 (c .before .before .before .before .before)) (somewhere (c .before .before .before .before .first-difference .ensures) (c .before .before .i .given .1)) (c .refusal2 .ensures), refl)
+    (ends-eleven (x .pre .0) (x .pre .1) (x .args .sheet .now) (none10 (c .before .before .before .before .before)) (somewhere (lit< tt) (c .before .before .before .before .first-difference .ensures) (c .before .before .i .given .1)) (c .refusal2 .ensures), refl)
 
 enum-told-2 : tie.Need-enum-told-2
 enum-told-2 c = search needs
@@ -79,7 +80,7 @@ returns-3 : tie.Need-returns-3
 returns-3 c =
     let x = c .before .before .before .before .before .before .before .before .before .before .before .before .before .before .before .before .before .before .before .before .before .before .before in
     let done = c .before .before .before .before .before .before .mark-atoms .ensures in (
-      ends-twelve (x .pre .0) (x .pre .1) (x .args .sheet .now) (none10 (c .before .before .before .before .before .before .before .before .before .before .before)) (none11 (c .before .before .before .before .before .before .before .before)) (somewhere (done .0) (c .before .before .k2 .given .1)) (c .refusal3 .ensures),
+      ends-twelve (x .pre .0) (x .pre .1) (x .args .sheet .now) (none10 (c .before .before .before .before .before .before .before .before .before .before .before)) (none11 (c .before .before .before .before .before .before .before .before)) (somewhere (lit< tt) (done .0) (c .before .before .k2 .given .1)) (c .refusal3 .ensures),
       done .1 .0 ∙ sym (length-zeros (x .args .marks .now) (x .pre .2)),
     )
 
@@ -118,7 +119,7 @@ returns-4 c =
     let x = c .before .before .before .before .before .before .before .before .before .before .before .before .before .before .before .before .before .before .before .before .before .before .before .before .before .before .before .before .before .before .before in
     let done = c .before .before .before .before .before .before .before .before .before .before .before .before .before .before .mark-atoms .ensures in
     let last = c .before .before .before .before .before .before .first-violation .ensures in (
-      ends-thirteen (x .pre .0) (x .pre .1) (x .args .sheet .now) (none10 (c .before .before .before .before .before .before .before .before .before .before .before .before .before .before .before .before .before .before .before)) (none11 (c .before .before .before .before .before .before .before .before .before .before .before .before .before .before .before .before)) (none12 (c .before .before .before .before .before .before .before .before .before .before)) (holding (c .before .before .before .before .before .before .before .before .before .before)) (somewhere (last .0) (c .before .before .c .given .1)) (c .refusal4 .ensures),
+      ends-thirteen (x .pre .0) (x .pre .1) (x .args .sheet .now) (none10 (c .before .before .before .before .before .before .before .before .before .before .before .before .before .before .before .before .before .before .before)) (none11 (c .before .before .before .before .before .before .before .before .before .before .before .before .before .before .before .before)) (none12 (c .before .before .before .before .before .before .before .before .before .before)) (holding (c .before .before .before .before .before .before .before .before .before .before)) (somewhere (lit< tt) (last .0) (c .before .before .c .given .1)) (c .refusal4 .ensures),
       last .1 ∙ (done .1 .0 ∙ sym (length-zeros (x .args .marks .now) (x .pre .2))),
     )
 
@@ -130,7 +131,7 @@ returns-5 c =
     let x = c .before .before .before .before .before .before .before .before .before .before .before .before .before .before .before .before .before .before .before .before .before .before .before .before .before .before .before .before .before .before in
     let done = c .before .before .before .before .before .before .before .before .before .before .before .before .before .mark-atoms .ensures in
     let last = c .before .before .before .before .before .first-violation .ensures in (
-      ends-passed (x .pre .0) (x .pre .1) (x .args .sheet .now) (none10 (c .before .before .before .before .before .before .before .before .before .before .before .before .before .before .before .before .before .before)) (none11 (c .before .before .before .before .before .before .before .before .before .before .before .before .before .before .before)) (none12 (c .before .before .before .before .before .before .before .before .before)) (holding (c .before .before .before .before .before .before .before .before .before)) (nowhere (last .0) (c .before .enum-told4 .given .1)) (c .no-refusal .ensures),
+      ends-passed (x .pre .0) (x .pre .1) (x .args .sheet .now) (none10 (c .before .before .before .before .before .before .before .before .before .before .before .before .before .before .before .before .before .before)) (none11 (c .before .before .before .before .before .before .before .before .before .before .before .before .before .before .before)) (none12 (c .before .before .before .before .before .before .before .before .before)) (holding (c .before .before .before .before .before .before .before .before .before)) (nowhere (lit< tt) (last .0) (c .before .enum-told4 .given .1)) (c .no-refusal .ensures),
       last .1 ∙ (done .1 .0 ∙ sym (length-zeros (x .args .marks .now) (x .pre .2))),
     )
 

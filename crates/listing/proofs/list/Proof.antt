@@ -1,92 +1,35 @@
--- `listing::list` meets its contract: with 0 the analysis has filled the buffers. Assumes nothing.
-use mathlib.Core.Path.{_≡_}
+-- `listing::list` meets its contract: the text of a refusal lies in the buffer, and with 0 the analysis has filled the buffers. Assumes nothing.
+use Prim.Native.Nat.{_≤_}
+use mathlib.Core.Path.{_≡_, sym, ap, _∙_}
 use native.Mathlib.Omega.{arith}
+use lib.ListN.{length}
+use lib.Seq.{length-take-le}
 use Rattle.meaning.specs.Calls.{Buffers}
-use Rattle.analysis.proofs.Done.{accepted-is, count-of-states, count-of-atoms, count-of-rounds, holds-states, holds-marks, holds-verdicts}
+use Rattle.analysis.proofs.Done.{filled-is}
+use Rattle.listing_answer.proofs.Texts.{text-inside}
 use borrow.Author.Needs.{needs}
 use Rattle.listing.proofs.list.Statement.{statement}
 use Rattle.listing.proofs.list.Tie as tie
 
-analyse-requires : tie.Need-analyse-requires
-analyse-requires c κs = tt
+inside : (c : tie.After-answer) → c .answer .result .text ≤ length (c .answer .last .1 .1 .1 .1 .1 .0)
+inside c = text-inside (c .before .before .before .before .before .before .before .before .before .before .before .before .args .out .now) _ (c .answer .ensures .line)
 
-print-refusal-requires : tie.Need-print-refusal-requires
-print-refusal-requires c κs = c .before .before .before .before .before .before .before .before .before .before .before .before .before .before .before .before .before .before .before .before .before .before .before .pre
+slice-reshare-prefix-write-all : tie.Need-slice-reshare-prefix-write-all
+slice-reshare-prefix-write-all c = inside (c .before .before .before .before .before .before .before .before .before .before)
 
-same-length : tie.Need-same-length
-same-length c = search needs
-
-same-length-2 : tie.Need-same-length-2
-same-length-2 c = search needs
-
-same-length-3 : tie.Need-same-length-3
-same-length-3 c = search needs
-
-same-length-4 : tie.Need-same-length-4
-same-length-4 c = search needs
-
-same-length-5 : tie.Need-same-length-5
-same-length-5 c = search needs
-
-returns : tie.Need-returns
-returns c = tt
+slice-aggregate-write-all : tie.Need-slice-aggregate-write-all
+slice-aggregate-write-all c = sym (length-take-le _ _ (inside (c .before .before .before .before .before .before .before .before .before .before .before)))
 
 print-results-requires : tie.Need-print-results-requires
 print-results-requires c κs =
-    let x = c .before .before .before .before .before .before .before .before .before .before .before .before .before .before .before .before .before .before .before .before .before .before .before .before .before .before in
-    let file = x .args .file .now in
-    let call = c .before .before .before .before .before .before .before .before .before .before .before .before .before .before .before .analyse in
-    let r = call .result in
+    let x = c .before .before .before .before .before .before .before .before .before .before .before .before .before .before .before .before .before .before .before .before .before .before .before .before .before .before .before .before .before .before .before .before in
+    let call = c .before .before .before .before .before .before .before .before .before .before .before .before .before .before .before .before .before .before .before .before .answer in
     let before : Buffers = record { states = x .args .states .now; tables = x .args .tables .now; marks = x .args .marks .now; verdicts = x .args .verdicts .now } in
     let after : Buffers = record { states = call .last .1 .0; tables = call .last .1 .1 .0; marks = call .last .1 .1 .1 .0; verdicts = call .last .1 .1 .1 .1 .0 } in
-    let is = call .ensures in
-    let z : r .answer .number ≡ 0 = omega arith in (
-      record {
-        answer = accepted-is file before after r is z;
-        count = count-of-states file before after r is z;
-        statesAre = holds-states file before after r is z;
-        marksAre = holds-marks file before after r is z;
-        verdictsAre = holds-verdicts file before after r is z;
-      },
-      count-of-atoms file before after r is z,
-      count-of-rounds file before after r is z,
-      x .pre,
-    )
-
-same-length-6 : tie.Need-same-length-6
-same-length-6 c = search needs
-
-same-length-7 : tie.Need-same-length-7
-same-length-7 c = search needs
-
-same-length-8 : tie.Need-same-length-8
-same-length-8 c = search needs
-
-same-length-9 : tie.Need-same-length-9
-same-length-9 c = search needs
-
-same-length-10 : tie.Need-same-length-10
-same-length-10 c = search needs
-
-returns-2 : tie.Need-returns-2
-returns-2 c = tt
+    let w = filled-is (x .args .file .now) before after (call .result .analysis) (call .ensures .analysis) (omega arith) in
+    (w .0, w .1, w .2, search needs)
 
 pub list-spec : {M : Type 1} → statement M
 list-spec =
     tie.close
-    (tie.spec
-    analyse-requires
-    print-refusal-requires
-    same-length
-    same-length-2
-    same-length-3
-    same-length-4
-    same-length-5
-    returns
-    print-results-requires
-    same-length-6
-    same-length-7
-    same-length-8
-    same-length-9
-    same-length-10
-    returns-2)
+    (tie.spec (λ c κs. search needs) slice-reshare-prefix-write-all slice-aggregate-write-all (λ c κs. search needs) (λ c. search needs) (λ c. search needs) (λ c. search needs) (λ c. search needs) (λ c. search needs) (λ c. tt) print-results-requires (λ c. search needs) (λ c. search needs) (λ c. search needs) (λ c. search needs) (λ c. search needs) (λ c. tt))

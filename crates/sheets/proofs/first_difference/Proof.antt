@@ -6,13 +6,18 @@ use mathlib.Core.List.{List}
 use native.Mathlib.Omega.{arith}
 use lib.ListN.{length, getD}
 use Rattle.meaning.specs.Fields.{word, fields}
-use Rattle.meaning.specs.Certificates.{statesIn}
-use Rattle.faults.specs.Faults.{faultAt}
+use mathlib.Core.Option.{Option}
+use Rattle.meaning.specs.Refusals.{Answer, accepted}
+use Rattle.meaning.specs.Certificates.{statesIn, refusedAt}
 use Rattle.sheets.proofs.Placing.{Reads, reads-none, StateHere, state-found, none-found}
 use Rattle.sheets.proofs.Alike.{Alike, alike-none, alike-more, alike-shorter, alike-longer, alike-differ, alike-all}
 use borrow.Author.Needs.{needs}
 use Rattle.sheets.proofs.first_difference.Statement.{statement}
 use Rattle.sheets.proofs.first_difference.Tie as tie
+
+-- the answer by the lowest place that 11 fits
+abbrev answered : Option ℕ → Answer
+answered place = refusedAt 11 place accepted
 
 abbrev Inv-loop : tie.InvT-loop
 Inv-loop sheet states at₀ i₀ at i = Reads sheet at i × Alike (statesIn (fields sheet)) states i
@@ -37,7 +42,7 @@ tag-of-requires c κs = search needs
 returns : tie.Need-returns Inv-loop μ-loop
 returns c =
     let l = c .before .before .before .loop in
-    ap faultAt (sym (alike-shorter (l .inv .1) (none-found (c .before .before .before .before .before .before .args .sheet .now) (l .at) (l .i) (l .inv .0) (λ e. c .if1 .taken (c .before .tag-of .ensures ∙ e))) (omega arith)))
+    ap answered (sym (alike-shorter (l .inv .1) (none-found (c .before .before .before .before .before .before .args .sheet .now) (l .at) (l .i) (l .inv .0) (λ e. c .if1 .taken (c .before .tag-of .ensures ∙ e))) (omega arith)))
 
 content-of-requires : tie.Need-content-of-requires Inv-loop μ-loop
 content-of-requires c κs = search needs
@@ -54,7 +59,7 @@ shared-slice-read-if2 c = search needs
 returns-2 : tie.Need-returns-2 Inv-loop μ-loop
 returns-2 c =
     let l = c .before .before .before .before .before .before .before .loop in
-    ap faultAt (sym (alike-differ (l .inv .1) (here (c .before .before .before .before) .place) (omega arith) (λ e. c .if2 .taken (says (c .before .before) ∙ e))))
+    ap answered (sym (alike-differ (l .inv .1) (here (c .before .before .before .before) .place) (omega arith) (λ e. c .if2 .taken (says (c .before .before) ∙ e))))
 
 next-of-requires : tie.Need-next-of-requires Inv-loop μ-loop
 next-of-requires c κs = search needs
@@ -78,12 +83,12 @@ tag-of-requires-2 c κs = search needs
 returns-3 : tie.Need-returns-3 Inv-loop μ-loop
 returns-3 c =
     let l = c .before .before .before .loop in
-    ap faultAt (sym (alike-longer (l .inv .1) (state-found (c .before .before .before .before .before .before .args .sheet .now) (l .at) (l .i) (l .inv .0) (sym (c .before .tag-of2 .ensures) ∙ c .if3 .taken) .place) (omega arith)))
+    ap answered (sym (alike-longer (l .inv .1) (state-found (c .before .before .before .before .before .before .args .sheet .now) (l .at) (l .i) (l .inv .0) (sym (c .before .tag-of2 .ensures) ∙ c .if3 .taken) .place) (omega arith)))
 
 returns-4 : tie.Need-returns-4 Inv-loop μ-loop
 returns-4 c =
     let l = c .before .before .before .loop in
-    ap faultAt (sym (alike-all (l .inv .1) (none-found (c .before .before .before .before .before .before .args .sheet .now) (l .at) (l .i) (l .inv .0) (λ e. c .if3 .left (c .before .tag-of2 .ensures ∙ e))) (omega arith)))
+    ap answered (sym (alike-all (l .inv .1) (none-found (c .before .before .before .before .before .before .args .sheet .now) (l .at) (l .i) (l .inv .0) (λ e. c .if3 .left (c .before .tag-of2 .ensures ∙ e))) (omega arith)))
 
 pub first-difference-spec : {M : Type 1} → statement M
 first-difference-spec =

@@ -7,15 +7,20 @@ use mathlib.Core.List.{List, []}
 use native.Mathlib.Omega.{arith}
 use lib.ListN.{length, take, drop}
 use Rattle.meaning.specs.Fields.{Field, whole}
-use Rattle.meaning.specs.Certificates.{misplaced}
 use Rattle.meaning.proofs.Lists.{T-of, T-not-of}
-use Rattle.faults.specs.Faults.{faultAt}
+use mathlib.Core.Option.{Option}
+use Rattle.meaning.specs.Refusals.{Answer, accepted}
+use Rattle.meaning.specs.Certificates.{misplaced, refusedAt}
 use Rattle.sheets.specs.Reading.{misplacedAfter}
 use Rattle.sheets.proofs.Walking.{Walked, walked-none, Stands, stands, walk-end, walk-cut, walk-stop, walk-on}
 use Rattle.sheets.proofs.Placing.{seen, seen-next}
 use borrow.Author.Needs.{needs}
 use Rattle.sheets.proofs.first_misplaced.Statement.{statement}
 use Rattle.sheets.proofs.first_misplaced.Tie as tie
+
+-- the answer by the lowest place that 10 fits
+abbrev answered : Option ℕ → Answer
+answered place = refusedAt 10 place accepted
 
 abbrev Inv-loop : tie.InvT-loop
 Inv-loop sheet preds at₀ k₀ atoms₀ at k atoms = (done : List Field) × Walked (misplaced preds) sheet at k done × (atoms ≡ seen done)
@@ -51,7 +56,7 @@ is-misplaced-requires : tie.Need-is-misplaced-requires Inv-loop μ-loop
 is-misplaced-requires c κs = search needs
 
 returns : tie.Need-returns Inv-loop μ-loop
-returns c = ap faultAt (sym (walk-stop (c .before .before .before .before .before .before .before .loop .inv .1) (stand (c .before .before .before)) (T-of _ (sym (said (c .before)) ∙ c .if1 .taken))))
+returns c = ap answered (sym (walk-stop (c .before .before .before .before .before .before .before .loop .inv .1) (stand (c .before .before .before)) (T-of _ (sym (said (c .before)) ∙ c .if1 .taken))))
 
 next-of-requires : tie.Need-next-of-requires Inv-loop μ-loop
 next-of-requires c κs = search needs
@@ -76,13 +81,13 @@ enum-told : tie.Need-enum-told Inv-loop μ-loop
 enum-told c = search needs
 
 returns-2 : tie.Need-returns-2 Inv-loop μ-loop
-returns-2 c = ap faultAt (sym (walk-cut (c .before .before .before .loop .inv .1) (c .before .before .field-of .ensures) (c .enum-told .given .1) tt))
+returns-2 c = ap answered (sym (walk-cut (c .before .before .before .loop .inv .1) (c .before .before .field-of .ensures) (c .enum-told .given .1) tt))
 
 enum-told-2 : tie.Need-enum-told-2 Inv-loop μ-loop
 enum-told-2 c = search needs
 
 returns-3 : tie.Need-returns-3 Inv-loop μ-loop
-returns-3 c = ap faultAt (sym (walk-end (c .before .before .before .loop .inv .1) (c .before .before .field-of .ensures) (c .enum-told2 .given .1)))
+returns-3 c = ap answered (sym (walk-end (c .before .before .before .loop .inv .1) (c .before .before .field-of .ensures) (c .enum-told2 .given .1)))
 
 pub first-misplaced-spec : {M : Type 1} → statement M
 first-misplaced-spec =

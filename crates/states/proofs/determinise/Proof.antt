@@ -7,6 +7,7 @@ use Rattle.meaning.specs.Files.{statesFor}
 use Rattle.meaning.specs.Types.{step, signature}
 use Rattle.meaning.specs.Limits.{mostStates}
 use Rattle.states.specs.Asked.{productionsAt}
+use Rattle.states.proofs.Packed.{packed-answer}
 use Rattle.states.proofs.Turns.{Turning, turning, turning-holds, turn-over, turn-size, turn-rest, turn-grown, turn-on}
 use Rattle.states.proofs.determinise.Statement.{statement}
 use Rattle.states.proofs.determinise.Tie as tie
@@ -32,7 +33,8 @@ enum-known-found c = search needs
 returns : tie.Need-returns Inv-loop μ-loop
 returns c =
     let turned = c .before .before .before .before in
-    turn-rest (turned .before .loop .inv) (turned .turn .ensures) (c .before .before .found .given .1) (omega arith)
+    let e = turn-rest (turned .before .loop .inv) (turned .turn .ensures) (c .before .before .found .given .1) (omega arith) in
+    (e, packed-answer _ e)
 
 loop-less : tie.Need-loop-less Inv-loop μ-loop
 loop-less c =
@@ -53,7 +55,8 @@ enum-told c = search needs
 returns-2 : tie.Need-returns-2 Inv-loop μ-loop
 returns-2 c =
     let turned = c .before .before in
-    turn-over (turned .before .loop .inv) (turned .turn .ensures) (c .enum-told .given .1)
+    let e = turn-over (turned .before .loop .inv) (turned .turn .ensures) (c .enum-told .given .1) in
+    (e, packed-answer _ e)
 
 pub determinise-spec : {M : Type 1} → statement M
 determinise-spec =

@@ -12,7 +12,7 @@ use Rattle.states.proofs.find.Statement.{statement}
 use Rattle.states.proofs.find.Tie as tie
 
 abbrev Inv-loop : tie.InvT-loop
-Inv-loop states s i₀ i = (i ≤ length states) × (i + indexOf s (drop i states) ≡ indexOf s states)
+Inv-loop states s i₀ i = (i ≤ length states) × (i + indexOf (s .bits) (drop i states) ≡ indexOf (s .bits) states)
 
 abbrev μ-loop : tie.MeasureT-loop
 μ-loop states s i₀ i = length states - i
@@ -28,9 +28,9 @@ shared-slice-read-if1 c = search needs
 
 returns : tie.Need-returns Inv-loop μ-loop
 returns c =
-    let a = c .before .before .before .before .args in
-    let i = c .before .before .before .loop .i in
-    sym (first-here (eqb (a .s)) (indexOf (a .s)) refl (λ x xs. refl) (a .states .now) i (search needs) (eq-eqb (a .s) _ (sym (c .if1 .taken)))) ∙ c .before .before .before .loop .inv .1
+    let a = c .before .before .before .before .before .args in
+    let i = c .before .before .before .before .loop .i in
+    sym (first-here (eqb (a .s .bits)) (indexOf (a .s .bits)) refl (λ x xs. refl) (a .states .now) i (search needs) (eq-eqb (a .s .bits) _ (sym (c .if1 .taken)))) ∙ c .before .before .before .before .loop .inv .1
 
 add-i : tie.Need-add-i Inv-loop μ-loop
 add-i c = search needs
@@ -40,15 +40,15 @@ loop-less c = search needs
 
 loop-again : tie.Need-loop-again Inv-loop μ-loop
 loop-again c =
-    let a = c .before .before .before .before .args in
-    let i = c .before .before .before .loop .i in
-    (search needs, first-next (eqb (a .s)) (indexOf (a .s)) refl (λ x xs. refl) (a .states .now) i (search needs) (ne-eqb (a .s) _ (λ e. c .if1 .left (sym e))) ∙ c .before .before .before .loop .inv .1)
+    let a = c .before .before .before .before .before .args in
+    let i = c .before .before .before .before .loop .i in
+    (search needs, first-next (eqb (a .s .bits)) (indexOf (a .s .bits)) refl (λ x xs. refl) (a .states .now) i (search needs) (ne-eqb (a .s .bits) _ (λ e. c .if1 .left (sym e))) ∙ c .before .before .before .before .loop .inv .1)
 
 returns-2 : tie.Need-returns-2 Inv-loop μ-loop
 returns-2 c =
     let a = c .before .before .args in
     let i = c .before .loop .i in
-    sym (first-none (eqb (a .s)) (indexOf (a .s)) refl (λ x xs. refl) (a .states .now) i (omega arith)) ∙ c .before .loop .inv .1
+    sym (first-none (eqb (a .s .bits)) (indexOf (a .s .bits)) refl (λ x xs. refl) (a .states .now) i (omega arith)) ∙ c .before .loop .inv .1
 
 pub find-spec : {M : Type 1} → statement M
 find-spec =

@@ -14,9 +14,9 @@ use Rattle.states.proofs.put.Tie as tie
 is-new :
     (c : tie.Joined1)
     → c .before .place .result < c .before .before .before .args .n
-    → getD (c .before .before .before .args .sets) (c .before .place .result) 0 ≡ c .before .before .before .args .s
+    → getD (c .before .before .before .args .sets) (c .before .place .result) 0 ≡ c .before .before .before .args .s .bits
     → ⊥
-is-new c lt = ⊎-elim (λ w. w .1 .left) (λ w. absurd (omega (arith, w .left))) (c .if1 .came)
+is-new c lt = ⊎-elim (λ w. w .2 .left) (λ w. absurd (omega (arith, w .left))) (c .if1 .came)
 
 array-share-prefix-known : tie.Need-array-share-prefix-known
 array-share-prefix-known c = search needs
@@ -35,9 +35,9 @@ array-read-if2 c = search needs
 
 returns : tie.Need-returns
 returns c =
-    let start = c .before .before .before .before in
-    let p = c .before .before .place in
-    put-same (start .pre) (start .args .s) (p .result) (p .ensures) (omega arith) (c .if2 .taken)
+    let start = c .before .before .before .before .before in
+    let p = c .before .before .before .place in
+    put-same (start .pre) (start .args .s .bits) (p .result) (p .ensures) (omega arith) (c .if2 .taken)
 
 too-many-requires : tie.Need-too-many-requires
 too-many-requires c κs = search needs
@@ -46,13 +46,13 @@ returns-2 : tie.Need-returns-2
 returns-2 c =
     let start = c .before .before .before .before .before in
     let p = c .before .before .before .place in
-    c .too-many .ensures ∙ put-full (start .pre) (start .args .s) (p .result) (p .ensures) (is-new (c .before .before)) (omega arith)
+    c .too-many .ensures ∙ put-full (start .pre) (start .args .s .bits) (p .result) (p .ensures) (is-new (c .before .before)) (omega arith)
 
 shift-requires : tie.Need-shift-requires
 shift-requires c κs =
     let start = c .before .before .before .before in
     let p = c .before .before .place in
-    (place-within (start .pre) (start .args .s) (p .result) (p .ensures), omega (arith, start .pre .few))
+    (place-within (start .pre) (start .args .s .bits) (p .result) (p .ensures), omega (arith, start .pre .few))
 
 add-t16 : tie.Need-add-t16
 add-t16 c = search needs
@@ -61,7 +61,7 @@ returns-3 : tie.Need-returns-3
 returns-3 c =
     let start = c .before .before .before .before .before in
     let p = c .before .before .before .place in
-    ap (answer (start .args .n + 1)) (c .shift .ensures) ∙ put-more (start .pre) (start .args .s) (p .result) (p .ensures) (is-new (c .before .before)) (omega (arith, start .pre .few))
+    ap (answer (start .args .n + 1)) (c .shift .ensures) ∙ put-more (start .pre) (start .args .s .bits) (p .result) (p .ensures) (is-new (c .before .before)) (omega (arith, start .pre .few))
 
 pub put-spec : {M : Type 1} → statement M
 put-spec =

@@ -11,10 +11,10 @@ use Rattle.states.proofs.shift.Statement.{statement}
 use Rattle.states.proofs.shift.Tie as tie
 
 abbrev Inv-loop : tie.InvT-loop
-Inv-loop i n s more₀ next₀ j₀ more next j = (j ≤ n) × (length more ≡ 16) × (putAt more j n next ≡ putAt more₀ i n s)
+Inv-loop i n more₀ next₀ j₀ more next j = (j ≤ n) × (length more ≡ 16) × (putAt more j n next ≡ putAt more₀ i n next₀)
 
 abbrev μ-loop : tie.MeasureT-loop
-μ-loop i n s more₀ next₀ j₀ more next j = n - j
+μ-loop i n more₀ next₀ j₀ more next j = n - j
 
 loop-holds : tie.Need-loop-holds Inv-loop μ-loop
 loop-holds c = (search needs, search needs, refl)

@@ -24,11 +24,11 @@ loop-holds c =
     let a = c .before .before .before .args in
     (omega arith, refl, indices-none (a .states .now) (a .sets .now) (a .tables .now))
 
-mul-find : tie.Need-mul-find Inv-loop μ-loop
-mul-find c = search needs
+mul-t6 : tie.Need-mul-t6 Inv-loop μ-loop
+mul-t6 c = search needs
 
-shared-slice-read-find : tie.Need-shared-slice-read-find Inv-loop μ-loop
-shared-slice-read-find c = search needs
+shared-slice-read-t9 : tie.Need-shared-slice-read-t9 Inv-loop μ-loop
+shared-slice-read-t9 c = search needs
 
 find-requires : tie.Need-find-requires Inv-loop μ-loop
 find-requires c κs = search needs
@@ -76,8 +76,8 @@ write-indices-spec =
     Inv-loop
     μ-loop
     loop-holds
-    mul-find
-    shared-slice-read-find
+    mul-t6
+    shared-slice-read-t9
     find-requires
     cast-tables
     slice-write-tables

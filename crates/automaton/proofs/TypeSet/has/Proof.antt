@@ -1,7 +1,7 @@
 -- `automaton::TypeSet::has` meets its contract: a member is read by a shift. Assumes nothing.
 use mathlib.Core.Path.{sym}
 use borrow.Author.Needs.{needs}
-use Rattle.automaton.proofs.Members.{has-shift}
+use Rattle.meaning.proofs.Bits.{has-shift}
 use Rattle.automaton.proofs.TypeSet.has.Statement.{statement}
 use Rattle.automaton.proofs.TypeSet.has.Tie as tie
 

@@ -1,0 +1,13 @@
+-- `vectors::is_refusal` meets its contract. Assumes nothing.
+use mathlib.Core.Path.{ap}
+use mathlib.Core.Bool.{Bool, not, _&&_}
+use lib.Dec.{eqb}
+use borrow.Author.Needs.{needs}
+use Rattle.vectors.proofs.is_refusal.Statement.{statement}
+use Rattle.vectors.proofs.is_refusal.Tie as tie
+
+returns : tie.Need-returns
+returns c = ap (λ (b : Bool). not (eqb (c .before .before .before .args .number) 9) && b) (c .same .ensures)
+
+pub is-refusal-spec : {M : Type 1} → statement M
+is-refusal-spec = tie.close (tie.spec (λ c κs. search needs) returns)
