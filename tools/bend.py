@@ -32,8 +32,8 @@ def fail(text):
 
 
 def read_bends(path):
-    """The bends in order: group, comment, reason to survive or None, and the edits as (file, old, new)."""
-    bends, group, file = [], None, None
+    """The bends in order: group, comment, reason to survive or None, and the edits as (file, line to look after or None, old, new)."""
+    bends, group, where = [], None, None
     for number, line in enumerate(path.read_text().splitlines(), 1):
         mark, text = line[:1], line[1:].strip()
         if line.startswith("== "):
@@ -42,30 +42,42 @@ def read_bends(path):
             continue  # the introduction, and empty lines
         elif mark == "#":
             bends.append({"group": group, "comment": text, "reason": None, "edits": []})
-            file = "specs/%s.antt" % group
+            where = ["specs/%s.antt" % group, None]
         elif not bends:
             fail("%s:%d: a bend begins with a line '# what it would claim'" % (path.name, number))
         elif mark == "!" and text.startswith("survives:"):
             bends[-1]["reason"] = text[len("survives:"):].strip()
         elif mark == "@":
-            file = ("" if "/" in text else "specs/") + text + ".antt"
+            name, _, after = text.partition(":")
+            where = [("" if "/" in name else "specs/") + name.strip() + ".antt", after.strip() or None]
         elif mark == "-":
-            bends[-1]["edits"].append([file, text, None])
-        elif mark == "+" and bends[-1]["edits"] and bends[-1]["edits"][-1][2] is None:
-            bends[-1]["edits"][-1][2] = text
+            bends[-1]["edits"].append(where + [text, None])
+        elif mark == "+" and bends[-1]["edits"] and bends[-1]["edits"][-1][3] is None:
+            bends[-1]["edits"][-1][3] = text
         else:
             fail("%s:%d: not a line of a bend: %s" % (path.name, number, line))
     return bends
 
 
+def place_of(lines, after, old):
+    """The line of an edit: the one that is the old text, or else the one that has it; where a line to look after is given, the first there."""
+    start = next((i + 1 for i, line in enumerate(lines) if after in line), len(lines)) if after else 0
+    places = [i for i in range(start, len(lines)) if lines[i].strip() == old] or [i for i in range(start, len(lines)) if old in lines[i]]
+    return places[0] if old and places and (after or len(places) == 1) and lines[places[0]].count(old) == 1 else None
+
+
 def apply(bend, crate):
-    """Makes the edits in a folder; says what is wrong, or None. The old text stands exactly once in its file."""
-    for file, old, new in bend["edits"]:
+    """Makes the edits in a folder; says what is wrong, or None."""
+    for file in {edit[0] for edit in bend["edits"]}:
         path = crate / file
-        text = path.read_text() if path.is_file() else ""
-        if new is None or not old or text.count(old) != 1:
-            return "%s has %d times: %s" % (file, text.count(old), old)
-        path.write_text(text.replace(old, new))
+        lines = path.read_text().split("\n") if path.is_file() else []
+        bent = list(lines)
+        for after, old, new in [edit[1:] for edit in bend["edits"] if edit[0] == file]:
+            place = place_of(lines, after, old)
+            if place is None or new is None:
+                return "%s does not have once: %s" % (file, old)
+            bent[place] = bent[place].replace(old, new)
+        path.write_text("\n".join(bent))
     return None if bend["edits"] else "no edit"
 
 

@@ -18,12 +18,12 @@ pub extern "C" fn rules_analyse(
 ) -> usize
     ensures { λ r. ⌜ analysis r (now (place .exit)) (now (count .exit)) (now (atoms .exit)) (now (rounds .exit)) (record { states = now (states .exit); tables = now (tables .exit); marks = now (marks .exit); verdicts = now (verdicts .exit) }) ≡ analysed (now (file .entry)) (record { states = now (states .entry); tables = now (tables .entry); marks = now (marks .entry); verdicts = now (verdicts .entry) }) ⌝ }
 {
-    let r = analysis::analyse(file, states, tables, marks, verdicts);
-    let answer = r.answer;
+    let found = analysis::analyse(file, states, tables, marks, verdicts);
+    let answer = found.answer;
     *place = answer.place;
-    *count = r.states;
-    *atoms = r.atoms;
-    *rounds = r.rounds;
+    *count = found.states;
+    *atoms = found.atoms;
+    *rounds = found.rounds;
     answer.number
 }
 
@@ -44,13 +44,13 @@ pub extern "C" fn rules_write(
 ) -> usize
     ensures { λ r. ⌜ WrittenInOrder (now (file .entry)) (record { states = now (states .entry); tables = now (tables .entry); marks = now (marks .entry); verdicts = now (verdicts .entry) }) (now (sheet .entry)) (writing r (now (place .exit)) (now (count .exit)) (now (atoms .exit)) (now (rounds .exit)) (now (bytes .exit)) (record { states = now (states .exit); tables = now (tables .exit); marks = now (marks .exit); verdicts = now (verdicts .exit) }) (now (sheet .exit))) ⌝ }
 {
-    let r = certificate::write(file, states, tables, marks, verdicts, sheet);
-    let answer = r.answer;
+    let made = certificate::write(file, states, tables, marks, verdicts, sheet);
+    let answer = made.answer;
     *place = answer.place;
-    *count = r.states;
-    *atoms = r.atoms;
-    *rounds = r.rounds;
-    *bytes = r.bytes;
+    *count = made.states;
+    *atoms = made.atoms;
+    *rounds = made.rounds;
+    *bytes = made.bytes;
     answer.number
 }
 
@@ -65,7 +65,7 @@ pub extern "C" fn rules_check(
 ) -> usize
     ensures { λ r. ⌜ check r (now (place .exit)) (record { tables = now (tables .exit); marks = now (marks .exit) }) ≡ checked (now (file .entry)) (now (sheet .entry)) (record { tables = now (tables .entry); marks = now (marks .entry) }) ⌝ }
 {
-    let answer = certificate::check(file, sheet, tables, marks);
-    *place = answer.place;
-    answer.number
+    let checked = certificate::check(file, sheet, tables, marks);
+    *place = checked.place;
+    checked.number
 }

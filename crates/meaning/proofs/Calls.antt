@@ -11,7 +11,7 @@ use lib.ListN.{length, length-map}
 use Rattle.meaning.specs.Cells.{cells}
 use Rattle.meaning.specs.Refusals.{Answer, refused, accepted, ok, andThen, refuseIf}
 use Rattle.meaning.specs.Files.{fileAnswer, rulesOf}
-use Rattle.meaning.specs.Clauses.{rounds, model}
+use Rattle.meaning.specs.Clauses.{model}
 use Rattle.meaning.specs.Certificates.{encodeSheet, sheetAnswer}
 use Rattle.meaning.specs.Calls.{statesOf, stepOf, interpretationOf, symbolArities, predicateArities, tablesOf, modelOf, roundsOf, atomsOf, verdictOf, verdictsOf, holds, filled, Buffers, longEnough, LongEnough, analysisDone, Lent, lentEnough, LentEnough, analysisAnswer, analysed, writingAnswer, writtenIn, lentAnswer, checkAnswer, checkDone, checked}
 use Rattle.meaning.proofs.Lists.{decide, clash, both, both-of, cond-yes, cond-no, not-intro, not-not-intro}
@@ -27,8 +27,7 @@ tables-length file = length-tables (stepOf file) (statesOf file) (symbolArities 
 
 pub marks-length : (file : List ℕ) → length (modelOf file) ≡ cells (length (statesOf file)) (predicateArities file)
 unfolding modelOf model
-marks-length file =
-    length-stage (length (statesOf file)) (interpretationOf file) (predicateArities file) (rulesOf file .clauses) (rounds (length (statesOf file)) (interpretationOf file) (predicateArities file) (rulesOf file .clauses))
+marks-length file = length-stage (length (statesOf file)) (interpretationOf file) (predicateArities file) (rulesOf file .clauses) _
 
 pub verdicts-length : (file : List ℕ) → length (verdictsOf file) ≡ length (rulesOf file .queries)
 unfolding verdictsOf

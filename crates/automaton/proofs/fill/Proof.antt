@@ -42,7 +42,7 @@ content-requires c κs =
     let loop = turn .before .loop in
     let start = turn .before .before .before .before .before .before .before .before .before .before .before in
     let a = start .args in
-    field-inside (a .file .now) (loop .at) (turn .loop-test .taken) (loop .inv .1) (told .before .before .field-at .ensures) (told .len .given .1)
+    field-inside (a .file .now) (loop .at) (omega arith) (loop .inv .1) (told .before .before .field-at .ensures) (told .len .given .1)
 
 mark-production-requires : tie.Need-mark-production-requires Inv-loop μ-loop
 mark-production-requires c κs =
@@ -53,8 +53,8 @@ mark-production-requires c κs =
     let start = begun .before .before .before .before .before .before .before in
     let a = start .args in (
       fillable-same (start .pre .0 .0) (loop .inv .0 ∙ length-begun (a .states .now) (a .arities .now) (a .sets .now) (start .pre .0 .0) (begun .before .cells-of .ensures) (begun .clear .ensures)),
-      first-long (a .file .now) (loop .at) (turn .loop-test .taken) (loop .inv .1) (told .before .before .field-at .ensures) (told .len .given .1) (c .before .content .ensures .0),
-      first-well (a .file .now) (loop .at) (turn .loop-test .taken) (loop .inv .1) (told .before .before .field-at .ensures) (told .len .given .1) (c .before .content .ensures .0) (start .pre .0 .1),
+      first-long (a .file .now) (loop .at) (omega arith) (loop .inv .1) (told .before .before .field-at .ensures) (told .len .given .1) (c .before .content .ensures .0),
+      first-well (a .file .now) (loop .at) (omega arith) (loop .inv .1) (told .before .before .field-at .ensures) (told .len .given .1) (c .before .content .ensures .0) (start .pre .0 .1),
     )
 
 add-at : tie.Need-add-at Inv-loop μ-loop
@@ -64,7 +64,7 @@ add-at c =
     let loop = turn .before .loop in
     let start = turn .before .before .before .before .before .before .before .before .before .before .before in
     let a = start .args in
-    omega (arith, field-inside (a .file .now) (loop .at) (turn .loop-test .taken) (loop .inv .1) (told .before .before .field-at .ensures) (told .len .given .1))
+    omega (arith, field-inside (a .file .now) (loop .at) (omega arith) (loop .inv .1) (told .before .before .field-at .ensures) (told .len .given .1))
 
 add-at-2 : tie.Need-add-at-2 Inv-loop μ-loop
 add-at-2 c =
@@ -73,7 +73,7 @@ add-at-2 c =
     let loop = turn .before .loop in
     let start = turn .before .before .before .before .before .before .before .before .before .before .before in
     let a = start .args in
-    omega (arith, field-inside (a .file .now) (loop .at) (turn .loop-test .taken) (loop .inv .1) (told .before .before .field-at .ensures) (told .len .given .1))
+    omega (arith, field-inside (a .file .now) (loop .at) (omega arith) (loop .inv .1) (told .before .before .field-at .ensures) (told .len .given .1))
 
 sub-left : tie.Need-sub-left Inv-loop μ-loop
 sub-left c = omega arith
@@ -90,8 +90,8 @@ loop-again c =
     let a = start .args in
     let marked = c .before .before .mark-production .ensures in (
       length-markProduction (a .states .now) (a .arities .now) _ (loop .sets) marked ∙ loop .inv .0,
-      rest-are (a .file .now) (loop .at) (turn .loop-test .taken) (loop .inv .1) (told .before .before .field-at .ensures) (told .len .given .1) (c .before .before .before .before .content .ensures .0),
-      from-next (a .file .now) (loop .at) (turn .loop-test .taken) (loop .inv .1) (told .before .before .field-at .ensures) (told .len .given .1) (c .before .before .before .before .content .ensures .0) (a .states .now) (loop .sets) marked ∙ loop .inv .2,
+      rest-are (a .file .now) (loop .at) (omega arith) (loop .inv .1) (told .before .before .field-at .ensures) (told .len .given .1) (c .before .before .before .before .content .ensures .0),
+      from-next (a .file .now) (loop .at) (omega arith) (loop .inv .1) (told .before .before .field-at .ensures) (told .len .given .1) (c .before .before .before .before .content .ensures .0) (a .states .now) (loop .sets) marked ∙ loop .inv .2,
     )
 
 enum-told : tie.Need-enum-told Inv-loop μ-loop
@@ -111,7 +111,7 @@ returns c =
     let loop = turn .before .loop in
     let start = turn .before .before .before .before .before .before .before .before .before .before .before in
     let a = start .args in
-    absurd (never-cut (a .file .now) (loop .at) (turn .loop-test .taken) (loop .inv .1) (c .before .before .field-at .ensures) (c .enum-told .given .1))
+    absurd (never-cut (a .file .now) (loop .at) (omega arith) (loop .inv .1) (c .before .before .field-at .ensures) (c .enum-told .given .1))
 
 enum-told-2 : tie.Need-enum-told-2 Inv-loop μ-loop
 enum-told-2 c = search needs
@@ -130,7 +130,7 @@ returns-2 c =
     let loop = turn .before .loop in
     let start = turn .before .before .before .before .before .before .before .before .before .before .before in
     let a = start .args in
-    absurd (never-end (a .file .now) (loop .at) (turn .loop-test .taken) (loop .inv .1) (c .before .before .field-at .ensures) (c .enum-told2 .given .1))
+    absurd (never-end (a .file .now) (loop .at) (omega arith) (loop .inv .1) (c .before .before .field-at .ensures) (c .enum-told2 .given .1))
 
 same-length-3 : tie.Need-same-length-3 Inv-loop μ-loop
 same-length-3 c =
