@@ -2,7 +2,7 @@
 //! ([`write_sheet`]), check anybody's certificate ([`check_sheet`]). The `_into` forms take the
 //! caller's buffers, and then nothing is allocated.
 //!
-//! A call uses at most 256 kB of stack.
+//! Give a call 256 kB of stack: what it takes is less, but was measured and is not proved.
 
 mod needs;
 pub mod raw;
