@@ -13,7 +13,7 @@ use Rattle.meaning.specs.Refusals.{Answer, refused, accepted, ok, andThe
 use Rattle.meaning.specs.Files.{fileAnswer, rulesOf}
 use Rattle.meaning.specs.Clauses.{model}
 use Rattle.meaning.specs.Certificates.{encodeSheet, sheetAnswer}
-use Rattle.meaning.specs.Calls.{statesOf, stepOf, interpretationOf, symbolArities, predicateArities, tablesOf, modelOf, roundsOf, atomsOf, verdictOf, verdictsOf, holds, filled, Buffers, longEnough, LongEnough, analysisDone, Lent, lentEnough, LentEnough, analysisAnswer, analysed, writingAnswer, writtenIn, lentAnswer, checkAnswer, checkDone, checked}
+use Rattle.meaning.specs.Calls.{statesOf, stepOf, interpretationOf, symbolArities, predicateArities, tablesOf, modelOf, roundsOf, atomsOf, verdictOf, verdictsOf, holds, filled, Buffers, longEnough, LongEnough, analysisDone, Lent, lentEnough, LentEnough, analysisAnswer, analysed, writingAnswer, writtenIn, withoutSheet, lentAnswer, checkAnswer, checkDone, checked}
 use Rattle.meaning.proofs.Lists.{decide, clash, both, both-of, cond-yes, cond-no, not-intro, not-not-intro}
 use Rattle.meaning.proofs.Answers.{then-next, then-first, if-no, file-number}
 use Rattle.meaning.proofs.Certificates.{check-number}
@@ -229,6 +229,21 @@ analysis-done file before e =
     let answer : analysisAnswer file before ≡ accepted = then-next (fileAnswer file) (refuseIf (not long) 9 0) (w .0) ∙ if-no (not long) 9 0 (not-not-intro long (w .1)) in
     let f = analysis-filled file before e in
     λ i. record { answer = answer i; states = f .1 i; atoms = f .2 i; rounds = f .3 i; after = f .0 i }
+
+-- With 0 a writing hands back what an analysis does, and the sheet.
+pub writing-done : (order : List (List ℕ)) (file : List ℕ) (before : Buffers) (sheet : List ℕ)
+    → writingAnswer file before sheet .number ≡ 0
+    → withoutSheet (writtenIn order file before sheet) ≡ analysisDone file before
+unfolding writtenIn analysed writingAnswer
+writing-done order file before sheet e =
+    let w = writing-zero file before sheet .0 e in
+    let room : Bool = holds sheet (encodeSheet (statesOf file) (atomsOf file)) in
+    let answer : writingAnswer file before sheet ≡ accepted =
+    then-next (analysisAnswer file before) (refuseIf (not room) 14 0) (w .0) ∙ if-no (not room) 14 0 (not-not-intro room (w .1)) in
+    let t = ok-zero (writingAnswer file before sheet) .1 e in
+    let a : Bool = ok (writingAnswer file before sheet) in
+    let after = analysis-filled file before (w .0) .0 in
+    λ i. record { answer = answer i; states = cond-yes a (length (statesOf file)) 0 t i; atoms = cond-yes a (length (atomsOf file)) 0 t i; rounds = cond-yes a (roundsOf file) 0 t i; after = after i }
 
 -- A refusal of a writing is 14, after an analysis that is refused nothing, or it is the analysis's.
 pub writing-cases : (file : List ℕ) (before : Buffers) (sheet : List ℕ)

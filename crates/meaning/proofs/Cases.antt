@@ -10,7 +10,7 @@ use Rattle.meaning.specs.Syntax.{Term, var, app, end, _▸_, Named, Prod
 use Rattle.meaning.specs.Limits.{tagOf, mostOf, mostFileBytes, mostContent}
 use Rattle.meaning.specs.Encoding.{kinds, encodeRules}
 use Rattle.meaning.specs.Fields.{fields, firstField, encodeField}
-use Rattle.meaning.specs.Contents.{termWithin, readTerms, readAtom, readAtoms, readClause, readConditions, readQuery}
+use Rattle.meaning.specs.Contents.{nameByte, termWithin, readTerms, readAtom, readAtoms, readClause, readConditions, readQuery}
 use Rattle.meaning.specs.Refusals.{Answer, refusal, firstRefused}
 use Rattle.meaning.specs.Types.{signature, step, bit, has}
 use Rattle.meaning.specs.States.{determinise, cellOf, tables}
@@ -19,10 +19,10 @@ use Rattle.meaning.specs.Clauses.{brings, next, stage, rounds, model, is
 use Rattle.meaning.specs.Certificates.{encodeSheet, violated, checkFields, sheetAnswer, markedAtoms}
 use Rattle.meaning.specs.Calls.{symbolArities, predicateArities, statesOf, stepOf, interpretationOf, tablesOf, roundsOf, modelOf, atomsOf, verdictOf, verdictsOf, Buffers, Analysed, analysisAnswer, analysed, Written, writingAnswer, writtenIn, Checked, lentAnswer, checkAnswer, checked}
 
--- what a row asks: the tags and the mosts of 01's table of kinds, with its other limits; of a rule file the answer to it, its bytes, the states, the tables, the number of atoms and the round count with the atoms, the verdicts,
+-- what a row asks: the tags and the mosts of 01's table of kinds, with its other limits; the bytes that a name may have; of a rule file the answer to it, its bytes, the states, the tables, the number of atoms and the round count with the atoms, the verdicts,
 -- whether a domain atom is in the model, the answer to a sheet; what a call hands back, with so many places lent of each buffer, in which each number is 9 before
 data Asked : Type 0 where
-  numbers accepts reads states cells models verdicts : Asked
+  numbers nameBytes accepts reads states cells models verdicts : Asked
   inModel check : List ℕ → Asked
   analysis : ℕ → ℕ → ℕ → ℕ → Asked
   writing : ℕ → ℕ → ℕ → ℕ → ℕ → Asked
@@ -48,6 +48,7 @@ checkBytes r = pair (r .answer) ++ r .after .tables ++ r .after .marks
 
 ask : Asked → List ℕ → List ℕ
 ask numbers file = map tagOf kinds ++ map mostOf kinds ++ (mostFileBytes ∷ mostContent ∷ [])
+ask nameBytes file = joined (table 256 (λ b. cond (nameByte b) (b ∷ []) []))
 ask accepts file = pair (fileAnswer file)
 ask reads file = file
 ask states file = statesOf file
@@ -267,16 +268,12 @@ limits =
     ∷ row [] accepts (7 ∷ 0 ∷ [])
     ∷ row (1 ∷ 0 ∷ 2 ∷ []) accepts (2 ∷ 0 ∷ [])
     ∷ row (replicate 32769 0) accepts (1 ∷ 0 ∷ [])
-    -- names
+    -- names: 0-9, `[`, `]`, `_`, a-z
+    ∷ row [] nameBytes (table 10 (λ i. 48 + i) ++ (91 ∷ 93 ∷ 95 ∷ table 26 (λ i. 97 + i)))
     ∷ row (symbol 0 (97 ∷ 122 ∷ 48 ∷ 57 ∷ 91 ∷ 93 ∷ 95 ∷ 109 ∷ [])) accepts (0 ∷ 0 ∷ [])
     ∷ row (symbol 0 (replicate 9 97)) accepts (4 ∷ 0 ∷ [])
     ∷ row (symbol 0 []) accepts (4 ∷ 0 ∷ [])
     ∷ row (symbol 0 (96 ∷ [])) accepts (4 ∷ 0 ∷ [])
-    ∷ row (symbol 0 (123 ∷ [])) accepts (4 ∷ 0 ∷ [])
-    ∷ row (symbol 0 (47 ∷ [])) accepts (4 ∷ 0 ∷ [])
-    ∷ row (symbol 0 (58 ∷ [])) accepts (4 ∷ 0 ∷ [])
-    ∷ row (symbol 0 (92 ∷ [])) accepts (4 ∷ 0 ∷ [])
-    ∷ row (symbol 0 (94 ∷ [])) accepts (4 ∷ 0 ∷ [])
     ∷ row (a ++ a) accepts (5 ∷ 1 ∷ [])
     ∷ row (aP ++ encodeField 4 (1 ∷ 112 ∷ [])) accepts (5 ∷ 2 ∷ [])
     ∷ row (symbol 1 (97 ∷ [])) accepts (7 ∷ 1 ∷ [])

@@ -12,13 +12,13 @@ use Rattle.meaning.specs.Fields.{Bytes}
 use Rattle.meaning.specs.Refusals.{Answer, refused, accepted, andThen, refuseIf}
 use Rattle.meaning.specs.Files.{rulesOf, fileAnswer}
 use Rattle.meaning.specs.Certificates.{encodeSheet, sheetAnswer, GivenSheet}
-use Rattle.meaning.specs.Calls.{predicateArities, statesOf, interpretationOf, atomsOf, holds, Buffers, longEnough, LongEnough, Analysed, analysisAnswer, analysed, AnalysisOf, analysisDone, filled, Written, writingAnswer, writtenIn, WrittenInOrder, Lent, lentEnough, LentEnough, lentAnswer, Checked, checkAnswer, checked, CheckOf, checkDone}
+use Rattle.meaning.specs.Calls.{predicateArities, statesOf, interpretationOf, atomsOf, holds, Buffers, longEnough, LongEnough, Analysed, analysisAnswer, analysed, AnalysisOf, analysisDone, filled, Written, writingAnswer, writtenIn, WrittenInOrder, withoutSheet, Lent, lentEnough, LentEnough, lentAnswer, Checked, checkAnswer, checked, CheckOf, checkDone}
 use Rattle.meaning.specs.Given.{Given, Accepted, GivenAnalysis, GivenWriting, GivenCheck, Acceptable}
 use Rattle.meaning.specs.Demand1.{Demand1}
 use Rattle.meaning.proofs.Answers.{zero-accepted}
 use Rattle.meaning.proofs.Acceptance.{acceptance-given, refusal-given, acceptable-exact}
 use Rattle.meaning.proofs.Certificates.{check-given}
-use Rattle.meaning.proofs.Calls.{long-exact, lent-exact, then-refused, unless-refused, analysis-zero, lent-zero, check-zero, analysis-number, lent-number, analysis-refused, analysis-filled, analysis-done, writing-cases, writing-refused, check-cases, check-untouched, check-done}
+use Rattle.meaning.proofs.Calls.{long-exact, lent-exact, then-refused, unless-refused, analysis-zero, lent-zero, check-zero, analysis-number, lent-number, analysis-refused, analysis-filled, analysis-done, writing-done, writing-cases, writing-refused, check-cases, check-untouched, check-done}
 
 module _ (file : List ℕ) where
   -- a number 0 of 1 to 8 says that the file is accepted
@@ -161,6 +161,7 @@ demand-1 file =
             λ a. e ∙ analysis-accepted file before .1 (acceptance-given file .0 (exact .1 (a .0)), a .1),
           );
       fills = λ {before} {result} w z. w .is ∙ analysis-done file before (sym (number-along file (analysis-answer file w)) ∙ z);
+      writes = λ {before} {sheet} {result} w z. ap withoutSheet (w .is) ∙ writing-done (w .order) file before sheet (sym (number-along file (writing-answer file w)) ∙ z);
       analysisRefuses = λ {before} {result} w n k pos. along file (analysis-answer file w) (analysis-given file before n k pos);
       writingRefuses = λ {before} {sheet} {result} w n k pos. along file (writing-answer file w) (writing-given file before sheet n k pos);
       checkRefuses = λ sheet bytes {before} {result} w n k pos. along file (check-answer file w) (sheet-check-given file sheet bytes before n k pos);

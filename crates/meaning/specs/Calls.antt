@@ -174,6 +174,10 @@ pub record WrittenInOrder (file : List ℕ) (before : Buffers) (sheet : List ℕ
   pub each : OrderOf file order
   pub is : result ≡ writtenIn order file before sheet
 
+-- what writing a sheet hands back besides the sheet and its bytes
+abbrev pub withoutSheet : Written → Analysed
+withoutSheet r = record { answer = r .answer; states = r .states; atoms = r .atoms; rounds = r .rounds; after = r .after }
+
 -- the sheet we write: the first bytes of the sheet's buffer after writing a sheet hands back 0, as many as it counts
 abbrev pub ours : Written → List ℕ
 ours result = take (result .bytes) (result .sheet)

@@ -5,7 +5,7 @@ use mathlib.Core.Logic.{_⊎_, _↔_, _≢_}
 use mathlib.Core.List.{List}
 use Rattle.meaning.specs.Fields.{Bytes}
 use Rattle.meaning.specs.Refusals.{refused}
-use Rattle.meaning.specs.Calls.{Buffers, Analysed, LongEnough, AnalysisOf, analysisDone, filled, Written, WrittenInOrder, Lent, Checked, CheckOf, checkDone}
+use Rattle.meaning.specs.Calls.{Buffers, Analysed, LongEnough, AnalysisOf, analysisDone, filled, Written, WrittenInOrder, withoutSheet, Lent, Checked, CheckOf, checkDone}
 use Rattle.meaning.specs.Given.{Acceptable, GivenAnalysis, GivenWriting, GivenCheck}
 
 pub record Demand1 (file : List ℕ) : Type 0 where
@@ -19,6 +19,11 @@ pub record Demand1 (file : List ℕ) : Type 0 where
       → AnalysisOf file before result
       → result .answer .number ≡ 0
       → result ≡ analysisDone file before
+  -- (so it does when its sheet is written: demand 3 is about the sheet)
+  pub writes : {before : Buffers} {sheet : List ℕ} {result : Written}
+      → WrittenInOrder file before sheet result
+      → result .answer .number ≡ 0
+      → withoutSheet result ≡ analysisDone file before
   -- "Every other file, sheet or buffer is refused with the number and place fixed there,
   pub analysisRefuses : {before : Buffers} {result : Analysed}
       → AnalysisOf file before result
