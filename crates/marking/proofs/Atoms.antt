@@ -10,7 +10,7 @@ use native.Mathlib.Omega.{arith}
 use lib.Dec.{T, eqb, ltb, ltb→lt}
 use lib.ListN.{length, getD, take, drop, set, replicate, length-set, length-replicate, getD-replicate, List·getD-eq-default}
 use lib.Seq.{getD-set-same, getD-set-other}
-use borrow.Rule.Slice.PartMut.{midOf, putMid, put-same}
+use borrow.Rule.Slice.PartMut.{midOf, putMid}
 use Rattle.meaning.specs.Lists.{allOf, All, same}
 use Rattle.meaning.specs.Legal.{Declared}
 use Rattle.meaning.specs.Limits.{atomTag}
@@ -23,7 +23,7 @@ use Rattle.meaning.proofs.Loops.{part-rest}
 use Rattle.meaning.proofs.Fields.{contentsOf-append}
 use Rattle.meaning.proofs.Contents.{declared-exact}
 use Rattle.meaning.proofs.Cells.{cell-lt, place-lt, place-inj}
-use Rattle.cells.proofs.Parts.{cell-in-part, part-at, part-set, segment-inside}
+use Rattle.cells.proofs.Parts.{cell-in-part, part-replaced, segment-inside}
 use Rattle.marking.specs.Holding.{isFree, Segmented, Holding}
 
 -- the bytes after the first, as a part of the content
@@ -96,22 +96,17 @@ module _ (m : ℕ) (preds segments content marks : List ℕ)
       pub cell-inside : c < length part
       cell-inside = cell-in-part marks first (first + size) c part-inside cell-low
 
-      free-is : eqb (getD part c 0) 0 ≡ isFree m preds marks content
-      free-is =
-          ap (λ (n : ℕ). eqb n 0) (part-at marks first (first + size) c part-inside cell-low)
-          ∙ sym (ap₂ (λ (a : Bool) (n : ℕ). a && eqb (getD marks n 0) 0) below (sym place-is))
-
       -- the cell marked in the part is the atom marked in the whole
       pub part-marked : {r : Bool} {l : List ℕ}
           → r ≡ eqb (getD part c 0) 0
           → l ≡ cond r (set part c 2) part
           → (r ≡ isFree m preds marks content)
           × (putMid first (first + size - first) marks l ≡ cond r (set marks (place m preds (getD content 0 0) (drop 1 content)) 2) marks)
-      part-marked {r} free put = (free ∙ free-is, ap (putMid first (first + size - first) marks) put ∙ go r)
-        where
-          go : (r : Bool) → putMid first (first + size - first) marks (cond r (set part c 2) part) ≡ cond r (set marks (place m preds (getD content 0 0) (drop 1 content)) 2) marks
-          go true = part-set marks first (first + size) c part-inside cell-low 2 ∙ ap (λ (n : ℕ). set marks n 2) place-is
-          go false = put-same first (first + size - first) marks
+      part-marked {r} free put =
+          let w = part-replaced marks first (first + size) c part-inside cell-low 0 2 free put in (
+            w .0 ∙ sym (ap₂ (λ (a : Bool) (n : ℕ). a && eqb (getD marks n 0) 0) below (sym place-is)),
+            w .1 ∙ ap (λ (n : ℕ). cond r (set marks n 2) marks) place-is,
+          )
 
 -- marks that hold no atom
 pub hold-none : (m : ℕ) (preds : List ℕ) → Holding m preds [] (replicate (cells m preds) 0)

@@ -3,8 +3,7 @@ use faults::Fault;
 ghost use mathlib.Core.Path.{_≡_};
 ghost use mathlib.Core.Bool.{cond};
 ghost use mathlib.Core.Option.{none};
-ghost use Prim.Native.Nat.{_<_};
-ghost use lib.Dec.{T, eqb, ltb};
+ghost use lib.Dec.{T, ltb};
 ghost use lib.ListN.{length, getD, set, drop, replicate};
 ghost use Rattle.meaning.specs.Lists.{allOf};
 ghost use Rattle.meaning.specs.Limits.{atomTag};
@@ -42,18 +41,6 @@ fn all_below(row: &[u8], m: usize) -> bool
     true
 }
 
-// Marks a cell of a predicate's part as new, if it is not marked. Hands back whether that was so.
-fn mark_cell(part: &mut [u8], c: usize) -> bool
-    requires { ⌜ c < length (now part) ⌝ }
-    ensures { λ r. ⌜ (r ≡ eqb (getD (now (part .entry)) c 0) 0) × (now (part .exit) ≡ cond r (set (now (part .entry)) c 2) (now (part .entry))) ⌝ }
-{
-    if part[c] != 0 {
-        return false;
-    }
-    part[c] = 2;
-    true
-}
-
 // Marks an atom as new, in its predicate's part of the marks, if its states are below m and it is not marked. Hands back whether that was so.
 fn mark(content: &[u8], marks: &mut [u8], preds: &[u8], segments: &[u32], m: usize) -> bool
     requires { ⌜ T (isAtomContent (now preds) (now content)) × Segmented m (now preds) (now segments) × (length (now marks) ≡ cells m (now preds)) ⌝ }
@@ -66,7 +53,7 @@ fn mark(content: &[u8], marks: &mut [u8], preds: &[u8], segments: &[u32], m: usi
     }
     let a = index(segments[p]);
     let e = a + cells::power(m, preds[p]);
-    mark_cell(&mut marks[a..e], cells::cell_of(row, m))
+    cells::replace(&mut marks[a..e], cells::cell_of(row, m), 0, 2)
 }
 
 // Marks the atoms of a sheet as new, to the first field of an atom that has a state not below m or is there for the second time.

@@ -63,8 +63,8 @@ add-e c =
     let h = c .before .before .before .before .before .before .before .before .before .before .before .before .before .pre in
     omega (arith, part-inside (a .m) (a .preds .now) (a .segments .now) (a .content .now) (a .marks .now) h (c .before .before .before .before .before .before .before .wide .ensures) (c .before .before .index .ensures) (c .power .ensures))
 
-part-mark-cell-end : tie.Need-part-mark-cell-end
-part-mark-cell-end c =
+part-replace-end : tie.Need-part-replace-end
+part-replace-end c =
     let a = c .before .before .before .before .before .before .before .before .before .before .before .before .before .args in
     let h = c .before .before .before .before .before .before .before .before .before .before .before .before .before .pre in
     part-inside (a .m) (a .preds .now) (a .segments .now) (a .content .now) (a .marks .now) h (c .before .before .before .before .before .before .before .wide .ensures) (c .before .before .index .ensures) (c .power .ensures)
@@ -75,8 +75,8 @@ cell-of-requires c κs =
     let h = c .before .before .before .before .before .before .before .before .before .before .before .before .before .before .pre in
     (h .1 .states, row-short (a .m) (a .preds .now) (a .segments .now) (a .content .now) (a .marks .now) h, states-below (a .m) (a .preds .now) (a .segments .now) (a .content .now) (a .marks .now) h (c .before .before .before .before .before .before .all-below .ensures) (not-false _ (c .before .before .before .before .before .if1 .left)))
 
-mark-cell-requires : tie.Need-mark-cell-requires
-mark-cell-requires c κs =
+replace-requires : tie.Need-replace-requires
+replace-requires c κs =
     let a = c .before .before .before .before .before .before .before .before .before .before .before .before .before .before .before .args in
     let h = c .before .before .before .before .before .before .before .before .before .before .before .before .before .before .before .pre in
     cell-inside (a .m) (a .preds .now) (a .segments .now) (a .content .now) (a .marks .now) h (c .before .before .before .before .before .before .before .before .before .wide .ensures) (c .before .before .before .before .index .ensures) (c .before .before .power .ensures) (c .cell-of .ensures) (c .before .before .before .before .before .before .before .all-below .ensures) (not-false _ (c .before .before .before .before .before .before .if1 .left))
@@ -85,10 +85,10 @@ returns-2 : tie.Need-returns-2
 returns-2 c =
     let a = c .before .before .before .before .before .before .before .before .before .before .before .before .before .before .before .before .before .before .args in
     let h = c .before .before .before .before .before .before .before .before .before .before .before .before .before .before .before .before .before .before .pre in
-    let done = c .before .before .mark-cell .ensures in
+    let done = c .before .before .replace .ensures in
     part-marked (a .m) (a .preds .now) (a .segments .now) (a .content .now) (a .marks .now) h (c .before .before .before .before .before .before .before .before .before .before .before .before .wide .ensures) (c .before .before .before .before .before .before .before .index .ensures) (c .before .before .before .before .before .power .ensures) (c .before .before .before .cell-of .ensures) (c .before .before .before .before .before .before .before .before .before .before .all-below .ensures) (not-false _ (c .before .before .before .before .before .before .before .before .before .if1 .left)) (done .0) (done .1)
 
 pub mark-spec : {M : Type 1} → statement M
 mark-spec =
     tie.close
-    (tie.spec shared-slice-read-wide (λ c κs. search needs) sub-row part-row-start (λ c. search needs) (λ c κs. search needs) returns mul-index shared-slice-read-index (λ c κs. search needs) shared-slice-read-power power-requires add-e (λ c. search needs) (λ c. search needs) part-mark-cell-end cell-of-requires mark-cell-requires (λ c. search needs) returns-2)
+    (tie.spec shared-slice-read-wide (λ c κs. search needs) sub-row part-row-start (λ c. search needs) (λ c κs. search needs) returns mul-index shared-slice-read-index (λ c κs. search needs) shared-slice-read-power power-requires add-e (λ c. search needs) (λ c. search needs) part-replace-end cell-of-requires replace-requires (λ c. search needs) returns-2)
