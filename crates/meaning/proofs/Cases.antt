@@ -20,10 +20,13 @@ use Rattle.meaning.specs.Certificates.{encodeSheet, violated, checkField
 use Rattle.meaning.specs.Calls.{symbolArities, predicateArities, statesOf, stepOf, interpretationOf, tablesOf, roundsOf, modelOf, atomsOf, verdictOf, verdictsOf, Buffers, Analysed, analysisAnswer, analysed, Written, writingAnswer, writtenIn, Checked, lentAnswer, checkAnswer, checked}
 
 -- what a row asks: the tags and the mosts of 01's table of kinds, with its other limits; the bytes that a name may have; of a rule file the answer to it, its bytes, the states, the tables, the number of atoms and the round count with the atoms, the verdicts,
--- whether a domain atom is in the model, the answer to a sheet; what a call hands back, with so many places lent of each buffer, in which each number is 9 before
+-- whether a domain atom is in the model, the answer to a sheet; the answers to the file with a field more, of a tag and with each of some contents; the answers to some sheets; what a call hands back, with so many places lent
+-- of each buffer, in which each number is 9 before
 data Asked : Type 0 where
   numbers nameBytes accepts reads states cells models verdicts : Asked
   inModel check : List ℕ → Asked
+  withField : ℕ → List (List ℕ) → Asked
+  checks : List (List ℕ) → Asked
   analysis : ℕ → ℕ → ℕ → ℕ → Asked
   writing : ℕ → ℕ → ℕ → ℕ → ℕ → Asked
   checking : List ℕ → ℕ → ℕ → Asked
@@ -58,6 +61,9 @@ ask verdicts file = verdictsOf file
 ask (inModel atom) file = bit (anyOf (same atom) (atomsOf file)) ∷ []
 ask (check sheet) file =
     pair (sheetAnswer (statesOf file) (interpretationOf file) (predicateArities file) (rulesOf file .clauses) sheet)
+ask (withField tag contents) file = joined (map (λ (content : List ℕ). pair (fileAnswer (file ++ encodeField tag content))) contents)
+ask (checks sheets) file =
+    joined (map (λ (sheet : List ℕ). pair (sheetAnswer (statesOf file) (interpretationOf file) (predicateArities file) (rulesOf file .clauses) sheet)) sheets)
 ask (analysis s t m v) file = analysisBytes (analysed file (nines s t m v))
 ask (writing s t m v room) file = writingBytes (writtenIn (atomsOf file) file (nines s t m v) (replicate room 9))
 ask (checking sheet t m) file = checkBytes (checked file sheet (record { tables = replicate t 9; marks = replicate m 9 }))
@@ -262,12 +268,34 @@ subsets constants types more =
 asked : ℕ → List ℕ
 asked b = a ++ encodeField 4 (1 ∷ 112 ∷ []) ++ encodeField 5 (1 ∷ 0 ∷ 0 ∷ 128 ∷ []) ++ encodeField 6 (1 ∷ b ∷ 0 ∷ 128 ∷ [])
 
+-- 24 symbols of a letter each; the type t; z/0 and s/1 with t; with p/1 too
+letters : List ℕ
+letters = many 24 (λ i. symbol 0 ((97 + i) ∷ []))
+
+typeT : List ℕ
+typeT = encodeField 2 (116 ∷ [])
+
+zst : List ℕ
+zst = symbol 0 (122 ∷ []) ++ symbol 1 (115 ∷ []) ++ typeT
+
+zstp : List ℕ
+zstp = zst ++ encodeField 4 (1 ∷ 112 ∷ [])
+
+-- one answer so many times
+times : ℕ → ℕ → ℕ → List ℕ
+times n number place = joined (replicate n (number ∷ place ∷ []))
+
 limits : List Row
 limits =
     row [] numbers (1 ∷ 2 ∷ 3 ∷ 4 ∷ 5 ∷ 6 ∷ 24 ∷ 12 ∷ 200 ∷ 16 ∷ 64 ∷ 32 ∷ 32768 ∷ 250 ∷ [])
     ∷ row [] accepts (7 ∷ 0 ∷ [])
     ∷ row (1 ∷ 0 ∷ 2 ∷ []) accepts (2 ∷ 0 ∷ [])
     ∷ row (replicate 32769 0) accepts (1 ∷ 0 ∷ [])
+    -- one byte left, two bytes left; a length of 256 bytes, with 255 and with 256 left
+    ∷ row (1 ∷ []) accepts (2 ∷ 0 ∷ [])
+    ∷ row (a ++ (1 ∷ 0 ∷ [])) accepts (2 ∷ 1 ∷ [])
+    ∷ row (1 ∷ 1 ∷ 0 ∷ replicate 255 97) accepts (2 ∷ 0 ∷ [])
+    ∷ row (1 ∷ 1 ∷ 0 ∷ replicate 256 97) accepts (4 ∷ 0 ∷ [])
     -- names: 0-9, `[`, `]`, `_`, a-z
     ∷ row [] nameBytes (table 10 (λ i. 48 + i) ++ (91 ∷ 93 ∷ 95 ∷ table 26 (λ i. 97 + i)))
     ∷ row (symbol 0 (97 ∷ 122 ∷ 48 ∷ 57 ∷ 91 ∷ 93 ∷ 95 ∷ 109 ∷ [])) accepts (0 ∷ 0 ∷ [])
@@ -275,6 +303,8 @@ limits =
     ∷ row (symbol 0 []) accepts (4 ∷ 0 ∷ [])
     ∷ row (symbol 0 (96 ∷ [])) accepts (4 ∷ 0 ∷ [])
     ∷ row (a ++ a) accepts (5 ∷ 1 ∷ [])
+    ∷ row (a ++ symbol 1 (97 ∷ [])) accepts (5 ∷ 1 ∷ [])
+    ∷ row (a ++ typeT ++ typeT) accepts (5 ∷ 2 ∷ [])
     ∷ row (aP ++ encodeField 4 (1 ∷ 112 ∷ [])) accepts (5 ∷ 2 ∷ [])
     ∷ row (symbol 1 (97 ∷ [])) accepts (7 ∷ 1 ∷ [])
     -- arities
@@ -284,6 +314,7 @@ limits =
     ∷ row (a ++ encodeField 4 (4 ∷ 112 ∷ [])) accepts (4 ∷ 1 ∷ [])
     -- tags
     ∷ row (a ++ encodeField 7 []) accepts (3 ∷ 1 ∷ [])
+    ∷ row (encodeField 0 []) accepts (3 ∷ 0 ∷ [])
     ∷ row (a ++ encodeField 2 (116 ∷ []) ++ symbol 0 (98 ∷ [])) accepts (3 ∷ 2 ∷ [])
     -- counts: the most pass, and the first past them is 6, whatever its content
     ∷ row (many 24 (λ i. symbol 0 ((97 + i) ∷ []))) accepts (0 ∷ 0 ∷ [])
@@ -292,6 +323,27 @@ limits =
     ∷ row (a ++ many 17 (λ i. encodeField 4 (0 ∷ (97 + i) ∷ []))) accepts (6 ∷ 17 ∷ [])
     ∷ row (aP ++ many 65 (λ i. encodeField 5 (0 ∷ 0 ∷ 0 ∷ []))) accepts (6 ∷ 66 ∷ [])
     ∷ row (aP ++ many 33 (λ i. encodeField 6 (0 ∷ 0 ∷ []))) accepts (6 ∷ 34 ∷ [])
+    -- the first of the numbers that fit: of 3, 6, 4 and 5; of 6, 4 and 5; of 4 and 5
+    ∷ row (letters ++ typeT ++ symbol 9 (97 ∷ [])) accepts (3 ∷ 25 ∷ [])
+    ∷ row (letters ++ symbol 9 (97 ∷ [])) accepts (6 ∷ 24 ∷ [])
+    ∷ row (a ++ symbol 9 (97 ∷ [])) accepts (4 ∷ 1 ∷ [])
+    -- a type: no byte, a byte that is no name's
+    ∷ row zst (withField 2 ([] ∷ (65 ∷ []) ∷ [])) (times 2 4 3)
+    -- a production: no symbol; an undeclared target, symbol, argument; an argument too few, too many; as laid out; the same twice
+    ∷ row zst
+    (withField 3 ((0 ∷ []) ∷ (1 ∷ 0 ∷ []) ∷ (0 ∷ 2 ∷ []) ∷ (0 ∷ 1 ∷ 1 ∷ []) ∷ (0 ∷ 1 ∷ []) ∷ (0 ∷ 0 ∷ 0 ∷ []) ∷ (0 ∷ 1 ∷ 0 ∷ []) ∷ []))
+    (times 6 4 3 ++ (0 ∷ 0 ∷ []))
+    ∷ row (zst ++ encodeField 3 (0 ∷ 0 ∷ [])) (withField 3 ((0 ∷ 0 ∷ []) ∷ [])) (0 ∷ 0 ∷ [])
+    -- a clause: no counts, no head, no term; an undeclared predicate, symbol, variable; a byte over; no body; a variable in the head alone, an unused one
+    ∷ row zstp
+    (withField 5 ([] ∷ (0 ∷ []) ∷ (0 ∷ 0 ∷ []) ∷ (0 ∷ 0 ∷ 0 ∷ []) ∷ (0 ∷ 0 ∷ 1 ∷ 0 ∷ []) ∷ (0 ∷ 0 ∷ 0 ∷ 2 ∷ []) ∷ (1 ∷ 0 ∷ 0 ∷ 129 ∷ []) ∷ (0 ∷ 0 ∷ 0 ∷ 0 ∷ 0 ∷ [])
+    ∷ (0 ∷ 1 ∷ 0 ∷ 0 ∷ []) ∷ (1 ∷ 0 ∷ 0 ∷ 128 ∷ []) ∷ (1 ∷ 0 ∷ 0 ∷ 0 ∷ []) ∷ []))
+    (times 9 4 4 ++ times 2 0 0)
+    -- a query: no count, no condition, no atom; of an undeclared type, a byte that is no condition, not of an undeclared type; an undeclared variable; a byte over; of a type, not of it
+    ∷ row zstp
+    (withField 6 ([] ∷ (1 ∷ []) ∷ (1 ∷ 255 ∷ []) ∷ (1 ∷ 1 ∷ 0 ∷ 128 ∷ []) ∷ (1 ∷ 127 ∷ 0 ∷ 128 ∷ []) ∷ (1 ∷ 129 ∷ 0 ∷ 128 ∷ []) ∷ (1 ∷ 255 ∷ 0 ∷ 129 ∷ [])
+    ∷ (1 ∷ 255 ∷ 0 ∷ 128 ∷ 0 ∷ []) ∷ (1 ∷ 0 ∷ 0 ∷ 128 ∷ []) ∷ (1 ∷ 128 ∷ 0 ∷ 128 ∷ []) ∷ []))
+    (times 8 4 4 ++ times 2 0 0)
     -- variables and body atoms; contents of 250 and 251 bytes
     ∷ row (aP ++ encodeField 5 (6 ∷ 4 ∷ replicate 5 0)) accepts (0 ∷ 0 ∷ [])
     ∷ row (aP ++ encodeField 5 (7 ∷ 4 ∷ replicate 5 0)) accepts (4 ∷ 2 ∷ [])
@@ -305,6 +357,35 @@ limits =
     ∷ row (asked 254) accepts (4 ∷ 3 ∷ [])
     ∷ row (subsets 16 4 []) accepts (0 ∷ 0 ∷ [])
     ∷ row (subsets 17 5 (encodeField 3 (4 ∷ 16 ∷ []))) accepts (8 ∷ 55 ∷ [])
+    ∷ []
+
+-- 003's Example 3: a/0, the empty list n/0, c/2 of a head and the rest; types list, listlist, any
+example3 : List ℕ
+example3 =
+    symbol 0 (97 ∷ []) ++ symbol 0 (110 ∷ []) ++ symbol 2 (99 ∷ []) ++ many 3 (λ t. encodeField 2 ((97 + t) ∷ []))
+    ++ encodeField 3 (0 ∷ 1 ∷ []) ++ encodeField 3 (0 ∷ 2 ∷ 2 ∷ 0 ∷ []) ++ encodeField 3 (1 ∷ 1 ∷ []) ++ encodeField 3 (1 ∷ 2 ∷ 0 ∷ 1 ∷ [])
+    ++ encodeField 3 (2 ∷ 0 ∷ []) ++ encodeField 3 (2 ∷ 1 ∷ []) ++ encodeField 3 (2 ∷ 2 ∷ 2 ∷ 2 ∷ [])
+
+-- E's symbols, types and productions; h/0 and t/3; t(z, z, s(z)); t(X, Y, W) asked with X and Y even and W odd, and with X odd and Y and W even
+ordered : List ℕ
+ordered =
+    symbol 0 (122 ∷ []) ++ symbol 1 (115 ∷ []) ++ many 2 (λ t. encodeField 2 ((97 + t) ∷ []))
+    ++ encodeField 3 (0 ∷ 0 ∷ []) ++ encodeField 3 (0 ∷ 1 ∷ 1 ∷ []) ++ encodeField 3 (1 ∷ 1 ∷ 0 ∷ []) ++ encodeField 4 (0 ∷ 104 ∷ []) ++ encodeField 4 (3 ∷ 116 ∷ [])
+    ++ encodeField 5 (0 ∷ 0 ∷ 1 ∷ 0 ∷ 0 ∷ 1 ∷ 0 ∷ [])
+    ++ encodeField 6 (3 ∷ 0 ∷ 0 ∷ 1 ∷ 1 ∷ 128 ∷ 129 ∷ 130 ∷ []) ++ encodeField 6 (3 ∷ 1 ∷ 0 ∷ 0 ∷ 1 ∷ 128 ∷ 129 ∷ 130 ∷ [])
+
+-- nine types and a constant of the last alone, so that the state is 256
+wide : List ℕ
+wide = a ++ many 9 (λ t. encodeField 2 ((97 + t) ∷ [])) ++ encodeField 3 (8 ∷ 0 ∷ [])
+
+-- What stands first: of a production's arguments, a cell's row, an atom's terms, a query's conditions and a state's bytes.
+orders : List Row
+orders =
+    row example3 states (4 ∷ 5 ∷ 7 ∷ [])
+    ∷ row example3 cells (0 ∷ 2 ∷ 0 ∷ 1 ∷ 1 ∷ 0 ∷ 1 ∷ 2 ∷ 0 ∷ 1 ∷ 2 ∷ [])
+    ∷ row ordered (analysis 2 3 9 2) (0 ∷ 0 ∷ 2 ∷ 1 ∷ 1 ∷ 1 ∷ 2 ∷ 0 ∷ 1 ∷ 0 ∷ 0 ∷ 0 ∷ 1 ∷ replicate 6 0 ++ (1 ∷ 0 ∷ []))
+    ∷ row wide (writing 1 1 0 0 5) (0 ∷ 0 ∷ 1 ∷ 0 ∷ 0 ∷ 5 ∷ 256 ∷ 0 ∷ 0x10 ∷ 0 ∷ 2 ∷ 1 ∷ 0 ∷ [])
+    ∷ row wide (check (0x10 ∷ 0 ∷ 2 ∷ 1 ∷ 0 ∷ [])) (0 ∷ 0 ∷ [])
     ∷ []
 
 -- what E's buffers hold afterwards
@@ -334,6 +415,12 @@ calls =
     ∷ row E (checking (twoStates ++ (0x10 ∷ 0 ∷ 2 ∷ 0 ∷ 3 ∷ [])) 3 2) (11 ∷ 2 ∷ 0 ∷ 1 ∷ 0 ∷ 0 ∷ 0 ∷ [])
     ∷ row E (checking (sheetE ++ (0x11 ∷ 0 ∷ 2 ∷ 0 ∷ 0 ∷ [])) 3 2) (12 ∷ 3 ∷ 0 ∷ 1 ∷ 0 ∷ 0 ∷ 0 ∷ [])
     ∷ row E (checking (twoStates ++ (0x11 ∷ 0 ∷ 2 ∷ 0 ∷ 2 ∷ [])) 3 2) (12 ∷ 2 ∷ 0 ∷ 1 ∷ 0 ∷ 0 ∷ 0 ∷ [])
+    -- 10: cut, another tag, a state of 1 and of 3 bytes; an atom of no byte, of an undeclared predicate, with a state too few, too many
+    ∷ row E (checks ((0x10 ∷ []) ∷ (0x0F ∷ 0 ∷ 0 ∷ []) ∷ (0x12 ∷ 0 ∷ 0 ∷ []) ∷ (0x10 ∷ 0 ∷ 1 ∷ 1 ∷ []) ∷ (0x10 ∷ 0 ∷ 3 ∷ 0 ∷ 1 ∷ 0 ∷ []) ∷ [])) (times 5 10 0)
+    ∷ row E (checks (map (λ (atom : List ℕ). twoStates ++ encodeField 0x11 atom) ([] ∷ (1 ∷ 0 ∷ []) ∷ (0 ∷ []) ∷ (0 ∷ 0 ∷ 0 ∷ []) ∷ []))) (times 4 10 2)
+    -- 11: no state, another state; before 12; 13 at a later clause
+    ∷ row E (checks ([] ∷ (0x10 ∷ 0 ∷ 2 ∷ 0 ∷ 2 ∷ []) ∷ (0x10 ∷ 0 ∷ 2 ∷ 0 ∷ 1 ∷ 0x11 ∷ 0 ∷ 2 ∷ 0 ∷ 7 ∷ []) ∷ [])) (times 2 11 0 ++ (11 ∷ 1 ∷ []))
+    ∷ row I (check sheetE) (13 ∷ 1 ∷ [])
     ∷ row E (checking sheetE 2 2) (9 ∷ 0 ∷ replicate 4 9)
     ∷ row E (checking sheetE 3 1) (9 ∷ 0 ∷ replicate 4 9)
     ∷ []
@@ -341,6 +428,6 @@ calls =
 holds : Row → Bool
 holds r = same (ask (r .asked) (r .file)) (r .says)
 
-cases : T (allOf holds (rows ++ limits ++ calls))
-unfolding rows limits calls holds ask nines bytesOf analysisBytes writingBytes checkBytes doneE E twoStates sheetE sheetG X Y z s p q p₂ clause query name to evenOddRules evenOdd rulesE I J constantOnly noType noSuchSet twoPlaces headOnly freeIn unusedVariable a many symbol aP deep subsets asked encodeRules fields firstField termWithin readTerms readAtom readAtoms readClause readConditions readQuery refusal firstRefused signature step determinise cellOf tables rulesIn rulesOf statesFor readAnswer fileAnswer brings next stage rounds model isOpen encodeSheet violated checkFields sheetAnswer markedAtoms symbolArities predicateArities statesOf stepOf interpretationOf tablesOf roundsOf modelOf atomsOf verdictOf verdictsOf analysisAnswer analysed writingAnswer writtenIn lentAnswer checkAnswer checked
+cases : T (allOf holds (rows ++ limits ++ orders ++ calls))
+unfolding rows limits orders calls letters typeT zst zstp times example3 ordered wide holds ask nines bytesOf analysisBytes writingBytes checkBytes doneE E twoStates sheetE sheetG X Y z s p q p₂ clause query name to evenOddRules evenOdd rulesE I J constantOnly noType noSuchSet twoPlaces headOnly freeIn unusedVariable a many symbol aP deep subsets asked encodeRules fields firstField termWithin readTerms readAtom readAtoms readClause readConditions readQuery refusal firstRefused signature step determinise cellOf tables rulesIn rulesOf statesFor readAnswer fileAnswer brings next stage rounds model isOpen encodeSheet violated checkFields sheetAnswer markedAtoms symbolArities predicateArities statesOf stepOf interpretationOf tablesOf roundsOf modelOf atomsOf verdictOf verdictsOf analysisAnswer analysed writingAnswer writtenIn lentAnswer checkAnswer checked
 cases = tt

@@ -1,10 +1,12 @@
--- Derivability is neither empty nor out of reach of the conditions: what a ground instance of a clause brings from derivable atoms is derivable; of rule set E, p(z)
--- and p(s(s(z))) are; and NoneDerivable is false of queries that such atoms refute. Assumes nothing.
+-- Derivability is neither empty nor out of reach of the conditions: what a ground instance of a clause brings from derivable atoms is derivable, whatever ground terms
+-- it gives to the variables; of rule set E, p(z), p(s(s(z))) and so on are, at every height; and NoneDerivable is false of a query with a derivable instance that meets
+-- its conditions. Assumes nothing.
 use Prim.Native.Nat.{ℕ, zero, suc, _<_}
 use mathlib.Core.Path.{_≡_, refl, sym, subst}
 use mathlib.Core.List.{List, [], _∷_, List·Memᴰ, List·Memᴰ·head, List·Memᴰ·tail, List·Memᴰ·not-nil, List·Memᴰ·eq-of-singleton}
 use native.Mathlib.Nat.{not-suc-le-zero, le-of-suc-le-suc}
 use lib.Dec.{T, ltb, ltb→lt, lit<}
+use lib.ListN.{length}
 use Rattle.meaning.specs.Lists.{allOf}
 use Rattle.meaning.specs.Syntax.{Tree, node, leaf, _▹_, Production, Atom, Clause, isOf, notOf, free, Query, Rules}
 use Rattle.meaning.specs.Legal.{arities}
@@ -17,14 +19,22 @@ use Rattle.meaning.proofs.Lists.{All-map, All-give, all-facts}
 use Rattle.meaning.proofs.Types.{types-exact}
 use Rattle.meaning.proofs.Cases.{E, rulesE, evenOddRules, X, Y, z, s, p, p₂, clause, query, name, to}
 
--- The derivable atoms are closed under the ground instances of the clauses, for any substitution.
+-- The derivable atoms are closed under the ground instances of the clauses, for any ground terms, of any height.
 pub derivable-step : (symbols : List ℕ) (clauses : List Clause) (c : Clause)
     → List·Memᴰ c clauses
     → (σ : ℕ → Tree)
-    → IsSubstitution symbols (c .variables) σ
+    → ((i : ℕ) → i < c .variables → IsGround symbols (σ i))
     → ((a : Atom) → List·Memᴰ a (c .body) → Derivable symbols clauses (a .predicate) (grounds σ (a .arguments)))
     → Derivable symbols clauses (c .head .predicate) (grounds σ (c .head .arguments))
 derivable-step symbols clauses c listed σ given body S closed = closed c listed σ given (All-give (c .body) (λ a at. body a at S closed))
+
+-- A derivable ground instance that meets the conditions refutes NoneDerivable, whatever ground terms it gives to the variables.
+pub refuted : (symbols : List ℕ) (productions : List Production) (clauses : List Clause) (q : Query) (σ : ℕ → Tree)
+    → ((i : ℕ) → i < length (q .conditions) → IsGround symbols (σ i))
+    → GroundMeetsAll productions (q .conditions) σ 0
+    → Derivable symbols clauses (q .atom .predicate) (grounds σ (q .atom .arguments))
+    → ¬ NoneDerivable symbols productions clauses q
+refuted symbols productions clauses q σ given met derivable none = none σ given met derivable
 
 -- the ground terms z, s(z), s(s(z))
 abbrev zero′ : Tree
@@ -58,17 +68,30 @@ ground-next : (t : Tree) → IsGround symbolsE t → IsGround symbolsE (next t)
 unfolding rulesE evenOddRules name signature
 ground-next t g = (tt, (g, tt))
 
--- p(z): the clause without a body; p(s(s(z))): the other, with X given z
+-- p(z): the clause without a body
 pub zero-derivable : Derivable symbolsE (rulesE .clauses) 0 (zero′ ▹ leaf)
 unfolding rulesE evenOddRules clause p z
 zero-derivable =
     derivable-step symbolsE (rulesE .clauses) (clause 0 (p z) []) (List·Memᴰ·head refl) (λ i. zero′) (λ i lt. ground-zero) (λ a at. absurd (List·Memᴰ·not-nil at))
 
-pub two-derivable : Derivable symbolsE (rulesE .clauses) 0 (next (next zero′) ▹ leaf)
+-- p(s(s(t))) from p(t): the other clause, with X given t; so p(s(..s(z)..)) for every even number of s, and no height is left out
+abbrev evens : ℕ → Tree
+evens zero = zero′
+evens (suc n) = next (next (evens n))
+
+ground-evens : (n : ℕ) → IsGround symbolsE (evens n)
+ground-evens zero = ground-zero
+ground-evens (suc n) = ground-next (next (evens n)) (ground-next (evens n) (ground-evens n))
+
+pub evens-derivable : (n : ℕ) → Derivable symbolsE (rulesE .clauses) 0 (evens n ▹ leaf)
 unfolding rulesE evenOddRules clause p s X
-two-derivable =
-    derivable-step symbolsE (rulesE .clauses) (clause 1 (p (s (s X))) (p X ∷ [])) (List·Memᴰ·tail (List·Memᴰ·head refl)) (λ i. zero′) (λ i lt. ground-zero) (λ a at.
-    subst (λ (b : Atom). Derivable symbolsE (rulesE .clauses) (b .predicate) (grounds (λ i. zero′) (b .arguments))) (sym (List·Memᴰ·eq-of-singleton at)) zero-derivable)
+evens-derivable zero = zero-derivable
+evens-derivable (suc n) =
+    derivable-step symbolsE (rulesE .clauses) (clause 1 (p (s (s X))) (p X ∷ [])) (List·Memᴰ·tail (List·Memᴰ·head refl)) (λ i. evens n) (λ i lt. ground-evens n) (λ a at.
+    subst (λ (b : Atom). Derivable symbolsE (rulesE .clauses) (b .predicate) (grounds (λ i. evens n) (b .arguments))) (sym (List·Memᴰ·eq-of-singleton at)) (evens-derivable n))
+
+pub two-derivable : Derivable symbolsE (rulesE .clauses) 0 (next (next zero′) ▹ leaf)
+two-derivable = evens-derivable (suc zero)
 
 -- the types of s(s(z)) and z
 not-odd : ¬ OfType (rulesE .productions) (next (next zero′)) 1
