@@ -1,5 +1,5 @@
 # The few things that people do. `make` alone lists them.
-.PHONY: help gate more crate dev format differential bench stack documents pages bends
+.PHONY: help gate more crate dev format differential bench stack documents pages pictures bends
 
 help:
 	@grep -E '^[a-z]+:.*##' $(MAKEFILE_LIST) | sed 's/:.*## /	/' | expand -t 16
@@ -31,13 +31,16 @@ stack: ## how much stack the calls take
 	rt staticlib exports
 	$(MAKE) -C bindings/c stack
 
-documents: ## every name in the documents is there
+documents: ## every name in the documents is there, the tables and the picture are what their scripts write
 	python3 tools/check_docs.py
 
 pages: ## the pages and tables that scripts write, from the logs of the last gate
 	python3 tools/edits.py
 	python3 tools/sizes.py
 	python3 tools/reading.py --write
+
+pictures: ## docs/rooms.svg, the crates and what each stands on, from crates.txt
+	python3 tools/picture.py
 
 bends: ## every bent definition is refused (an hour)
 	python3 tools/bend.py

@@ -8,13 +8,14 @@ import subprocess
 import sys
 from pathlib import Path
 
+import picture
 import reading
 
 ROOT = Path(__file__).resolve().parent.parent
 # words between backquotes that look like names and are none of ours
-OTHERS = set("semi-naive RULES_LIB_DIR".split())
+OTHERS = set("semi-naive RULES_LIB_DIR add-one".split())
 # parts of words that stand for any name
-ANY = re.compile(r"NAME|LABEL|NNN|Pn|\.\.")
+ANY = re.compile(r"NAME|LABEL|FUNCTION|NNN|Pn|\.\.|\+f\+g")
 
 
 def tracked(*patterns):
@@ -85,9 +86,18 @@ def reading_table():
         yield "docs/TRUST.md: its table is not what tools/reading.py prints"
 
 
+def rooms():
+    """Whether the picture is as its script draws it, and docs/ARCHITECTURE.md has a line for each crate and no other."""
+    if not picture.PICTURE.exists() or picture.PICTURE.read_text() != picture.draw():
+        yield "docs/rooms.svg: not what tools/picture.py draws"
+    lines = re.findall(r"^\| `(\w+)` \|", (ROOT / "docs" / "ARCHITECTURE.md").read_text(), re.M)
+    for crate in sorted(set(lines) ^ set(picture.read_crates()[0])):
+        yield f"docs/ARCHITECTURE.md: `{crate}` {'is no crate of crates.txt' if crate in lines else 'has no line'}"
+
+
 def main():
     found = [f"{page.relative_to(ROOT)}: {what}" for page in tracked("*.md") for what in missing(page)]
-    found += list(reading_table())
+    found += list(reading_table()) + list(rooms())
     for line in found:
         print(line)
     edits = subprocess.run([sys.executable, ROOT / "tools" / "edits.py", "--check"], check=False).returncode

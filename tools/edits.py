@@ -14,8 +14,8 @@ ROOT = Path(__file__).resolve().parent.parent
 PAGE = ROOT / "docs" / "EDITS.md"
 HEAD = """# The edits that must be refused
 
-Each is a wrong program, or a wrong definition, that keeps the shape of the text (`crates/NAME/must-fail/LABEL.edit`); the gate tries each and fails if one is still
-proved. This page is written by `tools/edits.py` from the edits and from the gate's logs: the fact is the first that the prover refuses.
+Each is a wrong program, or a wrong definition, that keeps the shape of the text (`crates/NAME/must-fail/LABEL.edit`); the gate tries each and fails if
+one is still proved. This page is written by `tools/edits.py` from the edits and from the gate's logs: the fact is the first that the prover refuses.
 
 ## The wrong programs that 01 lists
 
@@ -45,11 +45,11 @@ def fact(crate, label):
     if not log.exists():
         return "(no log)", False
     text = log.read_text()
-    found = re.search(r"^\S*?/(proofs|specs)/(\S+?)\.antt:\d+:\d+: error: `([^`]+)`: (.*)", text, re.M)
+    found = re.search(r"^\S*?/(proofs|specs)/(\S+?)\.antt:(\d+):(\d+): error: `([^`]+)`: (.*)", text, re.M)
     if found is None:
         found = re.search(r"^fn \w+::(\w+): no proof: .*`search` does not close `([^`]+)`", text, re.M)
         return name_of(found.group(1), found.group(2)) if found else ("(not refused)", False)
-    part, path, declared, said = found.groups()
+    part, path, line, column, declared, said = found.groups()
     if "that can be named from here" in said or part == "specs":
         return f"(the text alone, at `{declared}`)", False
     folder, _, last = path.rpartition("/")
@@ -60,9 +60,23 @@ def fact(crate, label):
         if need != declared:
             return name_of(function, need)
     proof = (ROOT / "crates" / crate / "proofs" / f"{path}.antt").read_text()
+    if declared.endswith("-spec") and "was not admitted" not in said:
+        return answer_at(proof.splitlines()[int(line) - 1], int(column), folder.split("/")[-1].strip("+").replace("+", "`, `"))
     if re.search(rf": \S*Need-{declared}\b(?!-)", proof) or declared.endswith("-spec"):
         return name_of(function, declared)
     return f"`{declared}` in the proof of `{function}`", True
+
+
+def answer_at(line, column, function):
+    """A need that is answered in the list of needs itself: by its answer, which begins at the last `λ` before the place, or with the line."""
+    start = line.rfind("(λ", 0, column) + 1
+    end, depth = start, 0
+    while end < len(line) and depth >= 0:
+        depth += {"(": 1, ")": -1}.get(line[end], 0)
+        end += depth >= 0
+    answer = re.sub(r"^λ[^.]*\. ", "", line[start:end].strip().rstrip(")") if start == 0 else line[start:end])
+    law = re.match(r"(?:sym )?\(?([\w-]+)", answer).group(1)
+    return f"a fact of `{function}`, by `{law}`", law not in ("search", "omega")
 
 
 def name_of(function, need):

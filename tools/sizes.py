@@ -6,8 +6,8 @@ from pathlib import Path
 ROOT = Path(__file__).resolve().parent.parent
 HEAD = """# Sizes
 
-Lines of definitions (`specs`), code (`src`) and proof (`proofs`), comments and imports included; the edits that must be refused; and the seconds that the check of each
-crate took in one run of the gate, which proves two crates at a time. Written by `tools/sizes.py`.
+Lines of definitions (`specs`), code (`src`) and proof (`proofs`), comments and imports included; the edits that must be refused; and the seconds that
+the check of each crate took in one run of the gate, which proves two crates at a time. Written by `tools/sizes.py`.
 
 | crate | definitions | code | proof | edits | seconds |
 |---|---|---|---|---|---|

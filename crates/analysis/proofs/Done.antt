@@ -1,16 +1,12 @@
 -- What an analysis has handed back with 0: `r` and the buffers `after` are those of a call with the buffers `before`, which its contract ties to the file.
 -- Assumes nothing.
-use Prim.Native.Nat.{ℕ}
-use mathlib.Core.Path.{_≡_, sym, ap, _∙_}
-use mathlib.Core.List.{List}
-use lib.ListN.{length}
-use Rattle.meaning.specs.Refusals.{accepted}
-use Rattle.meaning.specs.Files.{fileAnswer}
-use Rattle.meaning.specs.Calls.{statesOf, modelOf, roundsOf, atomsOf, verdictsOf, written, Buffers, Analysed, analysisDone, analysed}
+use Rattle.meaning.proofs.Prelude.{ℕ, _≡_, sym, ap, _∙_, List, length}
+use Rattle.meaning.proofs.Definitions.{accepted, fileAnswer, statesOf, modelOf, roundsOf, atomsOf, verdictsOf, written, Buffers, Analysed}
+use Rattle.meaning.proofs.Definitions.{analysisDone, analysed}
 use Rattle.meaning.proofs.Demand1.{demand-1, accepted-analysis}
 use Rattle.analysis.specs.declared.Analysis.{Analysis}
 use Rattle.analysis.specs.Given.{given, Filled}
-use Rattle.results.proofs.Fronts.{written-again}
+use Rattle.bytes.proofs.Written.{written-again}
 
 module _ (file : List ℕ) (before after : Buffers) (r : Analysis) (is : given r after ≡ analysed file before) (z : r .answer .number ≡ 0) where
   done-is : given r after ≡ analysisDone file before

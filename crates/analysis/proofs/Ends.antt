@@ -1,21 +1,13 @@
 -- How an analysis ends: refused with 1 to 8, with 9, or done. Assumes nothing.
-use Prim.Native.Nat.{ℕ, _≤_}
-use mathlib.Core.Path.{_≡_, sym, ap, _∙_}
-use mathlib.Core.Logic.{_≢_}
-use mathlib.Core.Bool.{Bool, true, false, not, _&&_}
-use mathlib.Core.List.{List}
-use native.Mathlib.Omega.{arith}
-use lib.Dec.{T, leb, leb→le}
-use lib.ListN.{length}
-use Rattle.meaning.specs.Cells.{cells}
+use Rattle.meaning.proofs.Prelude.{ℕ, _≤_, _≡_, sym, ap, _∙_, _≢_, Bool, true, false, not, _&&_, List, T, leb, leb→le, length, arith}
+use Rattle.meaning.proofs.Definitions.{cells, fileAnswer, statesOf, tablesOf, modelOf, verdictsOf, Buffers, longEnough, analysisAnswer, analysed}
+use Rattle.meaning.proofs.Definitions.{analysisDone}
 use Rattle.meaning.specs.Refusals as meant
-use Rattle.meaning.specs.Files.{fileAnswer}
-use Rattle.meaning.specs.Calls.{statesOf, tablesOf, modelOf, verdictsOf, Buffers, longEnough, analysisAnswer, analysed, analysisDone}
 use Rattle.meaning.proofs.Lists.{both}
 use Rattle.meaning.proofs.Answers.{then-first, then-next}
 use Rattle.meaning.proofs.Calls.{analysis-refused, analysis-filled}
-use Rattle.accept.specs.declared.Answer.{Answer}
-use Rattle.accept.specs.Accepted.{answered}
+use Rattle.acceptance.specs.declared.Answer.{Answer}
+use Rattle.acceptance.specs.Accepted.{answered}
 use Rattle.analysis.specs.Given.{given, noCounts}
 
 module _ (file : List ℕ) (before : Buffers) where

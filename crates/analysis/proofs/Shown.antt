@@ -1,17 +1,11 @@
 -- The parts of the filled buffers that hold an accepted file's states, model and verdicts. Assumes nothing.
-use Prim.Native.Nat.{ℕ, _≤_}
-use mathlib.Core.Path.{_≡_, sym, ap, subst, _∙_}
-use mathlib.Core.List.{List}
-use native.Mathlib.Omega.{arith}
-use lib.ListN.{length, getD, take}
-use Rattle.meaning.specs.Lists.{All}
-use Rattle.meaning.specs.Cells.{cells}
-use Rattle.meaning.specs.Calls.{statesOf, modelOf, verdictsOf}
-use Rattle.refusals.specs.declared.Known.{Known}
-use Rattle.refusals.specs.Known.{Knows, fieldsRead}
-use Rattle.rules.proofs.Limits.{accepted-few}
+use Rattle.meaning.proofs.Prelude.{ℕ, _≤_, _≡_, sym, ap, _∙_, subst, List, length, getD, take, arith}
+use Rattle.meaning.proofs.Definitions.{All, cells, statesOf, modelOf, verdictsOf}
+use Rattle.declarations.specs.declared.Known.{Known}
+use Rattle.declarations.specs.Known.{Knows, fieldsRead}
+use Rattle.parser.proofs.Limits.{accepted-few}
 use Rattle.analysis.specs.Given.{Filled}
-use Rattle.results.proofs.Handed.{few-predicates, fit-predicates, model-size, verdicts-needed, predicates-fit}
+use Rattle.acceptance.proofs.Handed.{few-predicates, fit-predicates, model-size, verdicts-needed, predicates-fit}
 
 module _ {file : List ℕ} {m : ℕ} {states marks verdicts : List ℕ} (f : Filled file m states marks verdicts) {known : Known} (knows : Knows known (fieldsRead file)) where
   pub shown-few : m ≤ 16

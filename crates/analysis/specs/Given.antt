@@ -5,9 +5,9 @@ use mathlib.Core.List.{List}
 use lib.ListN.{length}
 use Rattle.meaning.specs.Refusals.{accepted}
 use Rattle.meaning.specs.Files.{fileAnswer}
-use Rattle.meaning.specs.Calls.{statesOf, roundsOf, modelOf, atomsOf, verdictsOf, written, filled, Buffers, Analysed}
-use Rattle.accept.specs.declared.Answer.{Answer}
-use Rattle.accept.specs.Accepted.{answered}
+use Rattle.meaning.specs.Calls.{statesOf, modelOf, verdictsOf, written, Buffers, Analysed}
+use Rattle.acceptance.specs.declared.Answer.{Answer}
+use Rattle.acceptance.specs.Accepted.{answered}
 use Rattle.analysis.specs.declared.Analysis.{Analysis}
 
 -- number, place and counts, with the buffers afterwards

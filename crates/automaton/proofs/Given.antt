@@ -1,24 +1,13 @@
 -- All productions marked in an emptied buffer: the sets that the symbols give over all rows. A type is in the set of a row exactly if a production
 -- that fits adds it, and each row has its own place. Assumes nothing.
-use Prim.Native.Nat.{ℕ, zero, suc, _+_, _^_, _≤_, _<_}
-use mathlib.Core.Path.{_≡_, refl, sym, ap, ap₂, subst, subst₂, _∙_}
-use mathlib.Core.Logic.{_⊎_, inl, inr, ⊎-elim}
-use mathlib.Core.Bool.{Bool, _&&_}
-use mathlib.Core.List.{List, [], _∷_, _++_, map, List·Memᴰ, List·Memᴰ·head, List·Memᴰ·tail}
-use native.Mathlib.Nat.{not-suc-le-zero, le-of-suc-le-suc, zero-add, add-zero, suc-add, add-suc, lt-of-lt-of-le}
-use native.Mathlib.Omega.{arith}
-use lib.Dec.{T, eqb, ltb, eqb→eq, eqb-refl, lt→ltb}
+use Rattle.meaning.proofs.Prelude.{ℕ, _+_, _≤_, _<_, zero, suc, _^_, _≡_, refl, sym, ap, _∙_, subst, subst₂, ap₂, ⊎-elim, _⊎_, inl, inr, Bool, _&&_}
+use Rattle.meaning.proofs.Prelude.{List, [], _∷_, map, _++_, List·Memᴰ, List·Memᴰ·head, List·Memᴰ·tail, ltb, T, eqb, eqb→eq, eqb-refl, lt→ltb, length}
+use Rattle.meaning.proofs.Prelude.{length-append, getD, take, drop, replicate, length-replicate, getD-replicate, List·getD-append, take-append-drop}
+use Rattle.meaning.proofs.Prelude.{length-take-le, ext-getD, getD-take, getD-append-add, drop-at, not-suc-le-zero, le-of-suc-le-suc, zero-add}
+use Rattle.meaning.proofs.Prelude.{add-zero, suc-add, add-suc, lt-of-lt-of-le, arith}
 use lib.Pow.{pow-pos, pow-mono}
-use lib.ListN.{length, getD, take, drop, replicate, length-append, length-replicate, getD-replicate, List·getD-append, take-append-drop}
-use lib.Seq.{ext-getD, getD-take, length-take-le, getD-append-add, drop-at}
-use Rattle.meaning.specs.Lists.{All, anyOf, joined}
-use Rattle.meaning.specs.Syntax.{Production}
-use Rattle.meaning.specs.Types.{has, fits, step, numbered}
-use Rattle.meaning.specs.States.{setsAt, reached}
-use Rattle.meaning.specs.Cells.{cell, rowOf, start, cells}
-use Rattle.meaning.specs.Legal.{WellProduction}
-use Rattle.meaning.specs.Files.{productionOf}
-use Rattle.meaning.specs.Clauses.{IsAtom, place}
+use Rattle.meaning.proofs.Definitions.{All, anyOf, joined, Production, has, fits, step, numbered, setsAt, reached, cell, rowOf, start, cells}
+use Rattle.meaning.proofs.Definitions.{WellProduction, productionOf, IsAtom, place}
 use Rattle.meaning.proofs.Lists.{bool-ext, both, both-of, any-find, any-give, All-find, length-table, getD-table}
 use Rattle.meaning.proofs.Sets.{has-nothing, has-setOf, setOf-lt, set-ext}
 use Rattle.meaning.proofs.Cells.{cell-lt, row-of-cell, place-lt, place-inj, place-onto}

@@ -1,20 +1,11 @@
 -- Sets in a buffer: the first ones emptied, and the steps in which a production marks its rows. Assumes nothing.
-use Prim.Native.Nat.{ℕ, zero, suc, _+_, _*_, _^_, _≤_, _<_}
-use mathlib.Core.Path.{_≡_, refl, sym, ap, subst, _∙_}
-use mathlib.Core.Logic.{_⊎_, inl, inr, ⊎-elim}
-use mathlib.Core.Bool.{Bool, true, false, cond}
-use mathlib.Core.List.{List, [], _∷_, _++_}
-use native.Mathlib.Nat.{lt-suc-self, le-step, eq-or-lt-of-le, le-of-suc-le-suc, not-suc-le-zero, zero-lt-suc, pow-zero, pow-succ', mul-assoc, mul-le-mul-right, le-mul-of-pos-right, one-le-pow, add-mul, one-mul}
-use native.Mathlib.Numerals.{add-one}
-use native.Mathlib.Omega.{arith}
-use native.Mathlib.Decide.{decLt, ℕ-discrete}
-use lib.Dec.{T}
+use Rattle.meaning.proofs.Prelude.{ℕ, _+_, _≤_, _<_, zero, suc, _^_, _*_, _≡_, refl, sym, ap, _∙_, subst, ⊎-elim, _⊎_, inl, inr, cond, Bool, true}
+use Rattle.meaning.proofs.Prelude.{false, List, [], _∷_, _++_, T, length, length-append, getD, drop, replicate, length-replicate, set, length-set}
+use Rattle.meaning.proofs.Prelude.{length-drop, drop-of-length-le, drop-cons, getD-set-same, getD-set-other, set-out, drop-set-lt, not-suc-le-zero}
+use Rattle.meaning.proofs.Prelude.{le-of-suc-le-suc, lt-suc-self, le-step, eq-or-lt-of-le, zero-lt-suc, pow-zero, pow-succ', mul-assoc}
+use Rattle.meaning.proofs.Prelude.{mul-le-mul-right, le-mul-of-pos-right, one-le-pow, add-mul, one-mul, add-one, decLt, ℕ-discrete, arith}
 use lib.Bits.{bitOr, or-lt}
-use lib.ListN.{length, getD, drop, set, replicate, length-set, length-append, length-replicate, length-drop, drop-of-length-le}
-use lib.Seq.{drop-cons, getD-set-same, getD-set-other, set-out, drop-set-lt}
-use Rattle.meaning.specs.Lists.{All}
-use Rattle.meaning.specs.Types.{has, fits}
-use Rattle.meaning.specs.States.{setsAt}
+use Rattle.meaning.proofs.Definitions.{All, has, fits, setsAt}
 use Rattle.meaning.proofs.Bits.{has-either}
 use Rattle.meaning.proofs.Lists.{T-true, both, both-of, either, left-of, right-of}
 use Rattle.cells.proofs.Rows.{cellFrom, from-nil, from-cons}
@@ -28,15 +19,6 @@ pub length-cleared : (sets : List ℕ) (n : ℕ) → n ≤ length sets → lengt
 unfolding cleared
 length-cleared sets n h =
     omega (arith, length-append (replicate n 0) (drop n sets), length-replicate {A = ℕ} n 0, length-drop n sets)
-
-pub cleared-next : (sets : List ℕ) (n : ℕ) → n < length sets → set (cleared sets n) n 0 ≡ cleared sets (n + 1)
-unfolding cleared
-cleared-next sets n h = rw (add-one n) (go sets n h)
-  where
-    go : (l : List ℕ) (n : ℕ) → n < length l → set (replicate n 0 ++ drop n l) n 0 ≡ replicate (suc n) 0 ++ drop (suc n) l
-    go [] n h = absurd (not-suc-le-zero h)
-    go (x ∷ l) zero h = refl
-    go (x ∷ l) (suc n) h = ap (λ (k : List ℕ). 0 ∷ k) (go l n (le-of-suc-le-suc h))
 
 -- after joining, a set is as it was, or it is at the place and has the other's types too
 pub joined-cases : (P : ℕ → Type 0) (sets : List ℕ) (place more j : ℕ)

@@ -1,8 +1,5 @@
 -- The set with one type alone, and the size of a set with a type added. Assumes nothing.
-use Prim.Native.Nat.{ℕ, _^_, _<_}
-use mathlib.Core.Path.{_≡_, sym, subst}
-use mathlib.Core.Logic.{⊎-elim}
-use lib.Dec.{T, eqb, eqb→eq, eqb-refl}
+use Rattle.meaning.proofs.Prelude.{ℕ, _<_, _^_, _≡_, sym, subst, ⊎-elim, T, eqb, eqb→eq, eqb-refl}
 use lib.Bits.{or-lt}
 use lib.Pow.{pow-lt}
 use Rattle.meaning.specs.Types.{has}

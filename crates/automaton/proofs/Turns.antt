@@ -1,15 +1,7 @@
 -- One production of a file, and the productions from a position on, field by field. Assumes nothing.
-use Prim.Native.Nat.{ℕ, zero, suc, _+_, _-_, _^_, _≤_, _<_}
-use mathlib.Core.Path.{_≡_, refl, sym, ap, ap₂, subst, _∙_}
-use mathlib.Core.List.{List, [], _∷_, map}
-use native.Mathlib.Nat.{not-suc-le-zero, one-mul, lt-of-lt-of-le}
-use native.Mathlib.Omega.{arith}
-use lib.ListN.{length, getD, take, drop}
-use Rattle.meaning.specs.Fields.{Front, frontOf}
-use Rattle.meaning.specs.Syntax.{Production}
-use Rattle.meaning.specs.Cells.{start}
-use Rattle.meaning.specs.Legal.{WellProduction}
-use Rattle.meaning.specs.Files.{productionOf}
+use Rattle.meaning.proofs.Prelude.{ℕ, _+_, _≤_, _-_, _<_, zero, suc, _^_, _≡_, refl, sym, ap, _∙_, subst, ap₂, List, [], _∷_, map, length, getD, take}
+use Rattle.meaning.proofs.Prelude.{drop, not-suc-le-zero, lt-of-lt-of-le, one-mul, arith}
+use Rattle.meaning.proofs.Definitions.{Front, frontOf, Production, start, WellProduction, productionOf}
 use Rattle.meaning.proofs.Lists.{All-map}
 use Rattle.meaning.proofs.Cells.{start-le}
 use Rattle.fields.specs.Found.{foundIn, contentsFrom, onContent}

@@ -54,27 +54,17 @@ impl TypeSet {
     }
 }
 
-fn wide(b: u8) -> usize
-    ensures { λ r. ⌜ r ≡ b ⌝ }
-{
-    b as usize
-}
-
 // The first n sets get no type.
-fn clear(sets: &mut [u16], n: usize)
+fn empty_sets(sets: &mut [u16], n: usize)
     requires { ⌜ n ≤ length (now sets) ⌝ }
     ensures { λ r. ⌜ now (sets .exit) ≡ replicate n 0 ++ drop n (now (sets .entry)) ⌝ }
 {
-    let mut i = 0;
-    while i < n {
-        sets[i] = 0;
-        i += 1;
-    }
+    bytes::zero_words(&mut sets[..n]);
 }
 
 // Joins a set of types into the cells of all rows that fit the arguments from i on: the state at each place holds the type that is asked for there.
 // `cell` is the cell of the states chosen so far; the segment of the symbol starts at `start`.
-fn mark(
+fn mark_rows(
     sets: &mut [u16],
     start: usize,
     states: &[u16],
@@ -96,7 +86,7 @@ fn mark(
     while d < states.len() {
         let state = TypeSet { bits: states[d] };
         if state.has(content[i]) {
-            mark(
+            mark_rows(
                 sets,
                 start,
                 states,
@@ -115,9 +105,9 @@ fn mark_production(sets: &mut [u16], states: &[u16], arities: &[u8], content: &[
     requires { ⌜ Fillable (now states) (now arities) (now sets) × (2 ≤ length (now content)) × WellProduction 16 (now arities) (productionOf (now content)) ⌝ }
     ensures { λ r. ⌜ now (sets .exit) ≡ markProduction (now (states .entry)) (now (arities .entry)) (productionOf (now (content .entry))) (now (sets .entry)) ⌝ }
 {
-    let start = cells::start_of(arities, states.len(), wide(content[1]));
+    let start = cells::start_of(arities, states.len(), bytes::wide(content[1]));
     let target = TypeSet::none().with(content[0]);
-    mark(sets, start, states, content, 2, 0, target);
+    mark_rows(sets, start, states, content, meaning::ARGUMENTS, 0, target);
 }
 
 // The sets that the symbols give over all rows of some sets, symbol after symbol: one pass over the productions.
@@ -134,7 +124,7 @@ pub fn fill(
     requires { ⌜ AreProductions types (now arities) count (contentsFrom count (drop from (now file))) ⌝ }
     ensures { λ r. ⌜ now (sets .exit) ≡ givenSets (map productionOf (contentsFrom count (drop from (now (file .entry))))) types (now (states .entry)) (now (arities .entry)) ++ drop (cells (length (now (states .entry))) (now (arities .entry))) (now (sets .entry)) ⌝ }
 {
-    clear(sets, cells::cells_of(arities, states.len()));
+    empty_sets(sets, cells::cells_of(arities, states.len()));
     let mut at = from;
     let mut left = count;
     while 0 < left {
@@ -142,7 +132,7 @@ pub fn fill(
             Found::Whole(_, len) => {
                 let content = fields::content(file, at, len);
                 mark_production(sets, states, arities, content);
-                at = at + 3 + len;
+                at = at + fields::HEADER + len;
                 left -= 1;
             }
             Found::Cut => return,

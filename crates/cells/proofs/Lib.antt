@@ -3,4 +3,3 @@ pub mod Rows
 pub mod Segments
 pub mod Parts
 pub mod Beginnings
-pub mod Fronts

@@ -1,21 +1,13 @@
 -- How the writing of a sheet ends: refused with 1 to 8, with 9, with 14, or done. The atoms stand in the order of their cells. Assumes nothing.
-use Prim.Native.Nat.{ℕ, _≤_, _<_}
-use mathlib.Core.Path.{_≡_, sym, ap, subst, _∙_}
-use mathlib.Core.Logic.{_≢_}
-use mathlib.Core.Bool.{not}
-use mathlib.Core.List.{List, Permᴰ·refl}
-use native.Mathlib.Omega.{arith}
-use lib.Dec.{T, eqb, eqb→eq}
-use lib.ListN.{length}
+use Rattle.meaning.proofs.Prelude.{ℕ, _≤_, _<_, _≡_, sym, ap, _∙_, subst, _≢_, not, List, Permᴰ·refl, T, eqb, eqb→eq, length, arith}
 use Rattle.meaning.specs.Refusals as meant
-use Rattle.meaning.specs.Files.{fileAnswer}
-use Rattle.meaning.specs.Certificates.{encodeSheet}
-use Rattle.meaning.specs.Calls.{statesOf, roundsOf, atomsOf, written, holds, counted, Buffers, longEnough, Analysed, OrderOf, analysisAnswer, analysed, writingAnswer, writtenIn, WrittenInOrder}
+use Rattle.meaning.proofs.Definitions.{fileAnswer, encodeSheet, statesOf, roundsOf, atomsOf, written, holds, counted, Buffers, longEnough, Analysed}
+use Rattle.meaning.proofs.Definitions.{OrderOf, analysisAnswer, analysed, writingAnswer, writtenIn, WrittenInOrder}
 use Rattle.meaning.proofs.Lists.{cond-yes, cond-no, not-intro, not-not-intro}
 use Rattle.meaning.proofs.Answers.{then-first, then-next, if-yes, if-no}
 use Rattle.meaning.proofs.Calls.{analysis-zero, writing-refused}
-use Rattle.accept.specs.declared.Answer.{Answer}
-use Rattle.accept.specs.Accepted.{answered}
+use Rattle.acceptance.specs.declared.Answer.{Answer}
+use Rattle.acceptance.specs.Accepted.{answered}
 use Rattle.analysis.specs.declared.Analysis.{Analysis}
 use Rattle.analysis.specs.Given.{given, noCounts}
 use Rattle.analysis.proofs.Ends as analysis

@@ -1,17 +1,11 @@
 -- After an analysis that hands back 0: what the sheet is put from, and that it gives the file's sheet. Assumes nothing.
-use Prim.Native.Nat.{ℕ, _≤_}
-use mathlib.Core.Path.{_≡_, sym, ap, subst, _∙_}
-use mathlib.Core.List.{List}
-use lib.ListN.{length, getD, take}
-use lib.Seq.{length-take-le}
-use Rattle.meaning.specs.Lists.{All}
-use Rattle.meaning.specs.Cells.{cells}
-use Rattle.meaning.specs.Calls.{statesOf, modelOf, atomsOf, Buffers, analysed}
-use Rattle.refusals.specs.declared.Known.{Known}
-use Rattle.refusals.specs.Known.{Knows, fieldsRead}
-use Rattle.rules.proofs.Limits.{predicates-known, states-some}
-use Rattle.results.proofs.Fronts.{holds-room, holds-first}
-use Rattle.results.proofs.Handed.{few-predicates, narrow-predicates}
+use Rattle.meaning.proofs.Prelude.{ℕ, _≤_, _≡_, sym, ap, _∙_, subst, List, length, getD, take, length-take-le}
+use Rattle.meaning.proofs.Definitions.{All, cells, statesOf, modelOf, atomsOf, Buffers, analysed}
+use Rattle.declarations.specs.declared.Known.{Known}
+use Rattle.declarations.specs.Known.{Knows, fieldsRead}
+use Rattle.parser.proofs.Limits.{predicates-known, states-some}
+use Rattle.bytes.proofs.Written.{holds-room, holds-first}
+use Rattle.acceptance.proofs.Handed.{few-predicates, narrow-predicates}
 use Rattle.analysis.specs.declared.Analysis.{Analysis}
 use Rattle.analysis.specs.Given.{given, Filled}
 use Rattle.analysis.proofs.Done.{accepted-is, holds-states, holds-marks, holds-verdicts}

@@ -1,27 +1,15 @@
 -- The bytes of a sheet: how many they are, and that they are put if there is room for them. Assumes nothing.
-use Prim.Native.Nat.{ℕ, _+_, _*_, _≤_, _<_}
-use mathlib.Core.Path.{_≡_, sym, ap, _∙_}
-use mathlib.Core.Bool.{not}
-use mathlib.Core.List.{List, [], _∷_, _++_}
-use native.Mathlib.Nat.{zero-add}
-use native.Mathlib.Omega.{arith}
-use lib.Dec.{T, leb→le, le→leb}
-use lib.ListN.{length, getD, drop, length-append}
-use lib.Seq.{take-length}
-use Rattle.meaning.specs.Lists.{All, nonzero}
-use Rattle.meaning.specs.Limits.{atomTag}
-use Rattle.meaning.specs.Fields.{encodeField}
-use Rattle.meaning.specs.Cells.{cells}
-use Rattle.meaning.specs.Certificates.{encodeSheet, markedAtoms, IsSheetAtom}
-use Rattle.meaning.specs.Calls.{written, holds}
+use Rattle.meaning.proofs.Prelude.{ℕ, _+_, _≤_, _<_, _*_, _≡_, sym, ap, _∙_, not, List, [], _∷_, _++_, T, leb→le, le→leb, length, length-append, getD}
+use Rattle.meaning.proofs.Prelude.{drop, take-length, zero-add, arith}
+use Rattle.meaning.proofs.Definitions.{All, nonzero, atomTag, encodeField, cells, encodeSheet, markedAtoms, IsSheetAtom, written, holds}
 use Rattle.meaning.proofs.Lists.{All-map, All-getD, cond-yes, cond-no, not-intro}
 use Rattle.meaning.proofs.MarkedAtoms.{marked-atoms-form, marked-count}
 use Rattle.cells.proofs.Segments.{start-all, start-most}
-use Rattle.segments.proofs.Counts.{counted-le}
-use Rattle.text.specs.Pasted.{pasted, Put}
-use Rattle.text.proofs.Putting.{put-then}
-use Rattle.writer.specs.Parts.{stateFields, atomFields}
-use Rattle.writer.proofs.Fields.{states-length}
+use Rattle.marks.proofs.Counts.{counted-le}
+use Rattle.bytes.specs.Pasted.{pasted, Put}
+use Rattle.bytes.proofs.Putting.{put-then}
+use Rattle.sheet_writer.specs.Parts.{stateFields, atomFields}
+use Rattle.sheet_writer.proofs.Fields.{states-length}
 use Rattle.certificate.specs.Given.{sheetOf, ifRoom}
 
 -- an atom's field is of at most 7 bytes

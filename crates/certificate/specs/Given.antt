@@ -1,13 +1,12 @@
 -- What writing a sheet hands back, as `meaning` has it.
 use Prim.Native.Nat.{ℕ}
-use mathlib.Core.Path.{_≡_}
 use mathlib.Core.Bool.{cond}
 use mathlib.Core.List.{List}
 use lib.ListN.{length}
 use Rattle.meaning.specs.Certificates.{encodeSheet, markedAtoms}
-use Rattle.meaning.specs.Calls.{Buffers, Written, OrderOf, written, holds, writtenIn}
-use Rattle.accept.specs.declared.Answer.{Answer}
-use Rattle.accept.specs.Accepted.{answered}
+use Rattle.meaning.specs.Calls.{Buffers, Written, written, holds}
+use Rattle.acceptance.specs.declared.Answer.{Answer}
+use Rattle.acceptance.specs.Accepted.{answered}
 use Rattle.certificate.specs.declared.Writing.{Writing}
 
 -- number, place and counts, with the buffers afterwards

@@ -1,6 +1,6 @@
 // Certificates (01: sheets): one written for a rule file, and one checked, whoever wrote it.
-use accept::Answer;
-use refusals::Known;
+use acceptance::Answer;
+use declarations::Known;
 ghost use Prim.Native.Nat.{_≤_};
 ghost use mathlib.Core.Path.{_≡_};
 ghost use lib.ListN.{length};
@@ -9,8 +9,8 @@ ghost use Rattle.meaning.specs.Cells.{cells};
 ghost use Rattle.meaning.specs.Refusals.{accepted};
 ghost use Rattle.meaning.specs.Files.{fileAnswer};
 ghost use Rattle.meaning.specs.Calls.{statesOf, checked, WrittenInOrder};
-ghost use Rattle.refusals.specs.Known.{Knows, fieldsRead};
-ghost use Rattle.checking.specs.Given.{gave};
+ghost use Rattle.declarations.specs.Known.{Knows, fieldsRead};
+ghost use Rattle.sheet_check.specs.Given.{gave};
 ghost use Rattle.certificate.specs.Given.{wrote, nothingWritten, sheetOf, ifRoom};
 
 // Number and place, and the counts of states, atoms, rounds and the sheet's bytes: each 0 with a refusal.
@@ -22,13 +22,7 @@ pub struct Writing {
     pub bytes: usize,
 }
 
-fn wide(b: u8) -> usize
-    ensures { λ r. ⌜ r ≡ b ⌝ }
-{
-    b as usize
-}
-
-fn refused(answer: Answer) -> Writing
+fn refused_writing(answer: Answer) -> Writing
     ensures { λ r. ⌜ r ≡ nothingWritten answer ⌝ }
 {
     Writing {
@@ -46,12 +40,12 @@ fn put_sheet(sheet: &mut [u8], found: &[u16], marks: &[u8], preds: &[u8]) -> usi
     ensures { λ r. ⌜ (r ≡ length (sheetOf (now (found .entry)) (now (preds .entry)) (now (marks .entry)))) × (now (sheet .exit) ≡ ifRoom (sheetOf (now (found .entry)) (now (preds .entry)) (now (marks .entry))) (now (sheet .entry))) ⌝ }
 {
     let m = found.len();
-    let bytes = m * 5 + writer::atoms_length(marks, preds, m);
+    let bytes = m * sheet_writer::STATE_FIELD + sheet_writer::atoms_length(marks, preds, m);
     if sheet.len() < bytes {
         return bytes;
     }
-    let at = writer::put_states(sheet, found);
-    writer::put_atoms(sheet, at, marks, preds, m);
+    let at = sheet_writer::put_state_fields(sheet, found);
+    sheet_writer::put_atom_fields(sheet, at, marks, preds, m);
     bytes
 }
 
@@ -72,15 +66,15 @@ fn write_accepted(
     let r = analysis::analyse_accepted(file, known, found, states, tables, marks, verdicts);
     let answer = r.answer;
     if answer.number != 0 {
-        return refused(answer);
+        return refused_writing(answer);
     }
     let counts = known.counts;
     let predicates = known.predicates;
-    let p = wide(counts[4]);
+    let p = bytes::wide(counts[declarations::PREDICATES]);
     let size = cells::cells_of(&predicates[..p], found.len());
     let needed = put_sheet(sheet, found, &marks[..size], &predicates[..p]);
     if sheet.len() < needed {
-        return refused(accept::refusal(14, 0));
+        return refused_writing(acceptance::refusal(meaning::SHEET_BUFFER_TOO_SHORT, 0));
     }
     Writing {
         answer,
@@ -102,10 +96,10 @@ pub fn write(
 ) -> Writing
     ensures { λ r. ⌜ WrittenInOrder (now (file .entry)) (record { states = now (states .entry); tables = now (tables .entry); marks = now (marks .entry); verdicts = now (verdicts .entry) }) (now (sheet .entry)) (wrote r (record { states = now (states .exit); tables = now (tables .exit); marks = now (marks .exit); verdicts = now (verdicts .exit) }) (now (sheet .exit))) ⌝ }
 {
-    let acceptance = accept::accept(file);
+    let acceptance = acceptance::accept(file);
     let first = acceptance.answer;
     if first.number != 0 {
-        return refused(first);
+        return refused_writing(first);
     }
     let known = acceptance.known;
     let found = acceptance.states;
@@ -127,7 +121,7 @@ pub fn write(
 pub fn check(file: &[u8], sheet: &[u8], tables: &mut [u8], marks: &mut [u8]) -> Answer
     ensures { λ r. ⌜ gave r (record { tables = now (tables .exit); marks = now (marks .exit) }) ≡ checked (now (file .entry)) (now (sheet .entry)) (record { tables = now (tables .entry); marks = now (marks .entry) }) ⌝ }
 {
-    let acceptance = accept::accept(file);
+    let acceptance = acceptance::accept(file);
     let refusal = acceptance.answer;
     if refusal.number != 0 {
         return refusal;
@@ -136,5 +130,5 @@ pub fn check(file: &[u8], sheet: &[u8], tables: &mut [u8], marks: &mut [u8]) -> 
     let found = acceptance.states;
     let m = states::count_of(found);
     let sets = found.sets;
-    checking::check_accepted(file, sheet, known, &sets[..m], tables, marks)
+    sheet_check::check_accepted(file, sheet, known, &sets[..m], tables, marks)
 }

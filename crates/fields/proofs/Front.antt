@@ -1,14 +1,6 @@
 -- What stands at a position of a list of bytes, by how many are left and what the two length bytes say. Assumes nothing.
-use Prim.Native.Nat.{ℕ, suc, _+_, _*_, _-_, _≤_, _<_}
-use mathlib.Core.Path.{_≡_, refl, ap, _∙_}
-use mathlib.Core.Bool.{cond}
-use mathlib.Core.List.{List, [], _∷_}
-use native.Mathlib.Omega.{arith}
-use native.Mathlib.Numerals.{add-one, add-two, add-three}
-use lib.Dec.{leb}
-use lib.ListN.{length, getD, take, drop, length-drop, drop-of-length-le}
-use lib.Seq.{drop-cons, length-take-le}
-use borrow.Author.Tests.{le-leb, lt-leb}
+use Rattle.meaning.proofs.Prelude.{ℕ, _+_, _≤_, _-_, _<_, suc, _*_, _≡_, refl, ap, _∙_, cond, List, [], _∷_, leb, length, getD, take, drop}
+use Rattle.meaning.proofs.Prelude.{length-drop, drop-of-length-le, length-take-le, drop-cons, add-one, add-two, add-three, arith, le-leb, lt-leb}
 use Rattle.meaning.specs.Fields.{short, front, frontOf}
 use Rattle.fields.specs.Found.{foundIn}
 use Rattle.fields.specs.declared.Found.the-variants.{End, Cut, Whole}

@@ -1,10 +1,6 @@
 -- What stands at a position of a file, from what was found there: the rest after a whole field, its bounds and its content. Assumes nothing.
-use Prim.Native.Nat.{ℕ, suc, _+_, _≤_}
-use mathlib.Core.Path.{_≡_, refl, sym, ap, subst, _∙_}
-use mathlib.Core.List.{List, _∷_, _++_}
-use native.Mathlib.Omega.{arith}
-use lib.ListN.{length, take, drop, length-append, length-drop}
-use lib.Seq.{drop-drop, drop-append-seam, take-append-seam}
+use Rattle.meaning.proofs.Prelude.{ℕ, _+_, _≤_, suc, _≡_, refl, sym, ap, _∙_, subst, List, _∷_, _++_, length, length-append, take, drop, length-drop}
+use Rattle.meaning.proofs.Prelude.{drop-drop, drop-append-seam, take-append-seam, arith}
 use Rattle.meaning.specs.Fields.{Front, empty, short, front, frontOf}
 use Rattle.meaning.proofs.Fields.{FrontIs, front-law}
 use Rattle.fields.specs.Found.{foundIn}

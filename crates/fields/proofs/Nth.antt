@@ -1,10 +1,6 @@
 -- The content and the end of what stands at a position, and the content of field k from a position on. Assumes nothing.
-use Prim.Native.Nat.{ℕ, zero, suc, _+_, _-_, _≤_, _<_}
-use mathlib.Core.Path.{_≡_, refl, sym, ap, subst, _∙_}
-use mathlib.Core.List.{List, [], _∷_}
-use native.Mathlib.Omega.{arith}
-use lib.Dec.{T}
-use lib.ListN.{length, getD, take, drop}
+use Rattle.meaning.proofs.Prelude.{ℕ, _+_, _≤_, _-_, _<_, zero, suc, _≡_, refl, sym, ap, _∙_, subst, List, [], _∷_, T, length, getD, take, drop}
+use Rattle.meaning.proofs.Prelude.{arith}
 use Rattle.meaning.specs.Fields.{Front, empty, short, front, frontOf}
 use Rattle.fields.specs.Found.{foundIn, isWhole, contentIn, nextIn, onContent, contentsFrom, onRest, nthIn}
 use Rattle.fields.specs.declared.Found.{Found}

@@ -6,6 +6,9 @@ ghost use lib.ListN.{length, take, drop};
 ghost use Rattle.meaning.specs.Fields.{frontOf};
 ghost use Rattle.fields.specs.Found.{foundIn, isWhole, contentIn, nextIn, nthIn};
 
+// The bytes of a field before its content: the tag and the length.
+pub const HEADER: usize = 3;
+
 // What stands at a position.
 pub enum Found {
     // No byte is left.
@@ -16,12 +19,6 @@ pub enum Found {
     Whole(u8, usize),
 }
 
-fn wide(b: u8) -> usize
-    ensures { λ r. ⌜ r ≡ b ⌝ }
-{
-    b as usize
-}
-
 // The field that starts at a position.
 pub fn field_at(s: &[u8], at: usize) -> Found
     ensures { λ r. ⌜ r ≡ foundIn (frontOf (drop at (now (s .entry)))) ⌝ }
@@ -30,11 +27,11 @@ pub fn field_at(s: &[u8], at: usize) -> Found
         return Found::End;
     }
     let left = s.len() - at;
-    if left < 3 {
+    if left < HEADER {
         return Found::Cut;
     }
-    let len = wide(s[at + 1]) * 256 + wide(s[at + 2]);
-    if len <= left - 3 {
+    let len = bytes::wide(s[at + 1]) * 256 + bytes::wide(s[at + 2]);
+    if len <= left - HEADER {
         Found::Whole(s[at], len)
     } else {
         Found::Cut
@@ -46,7 +43,7 @@ pub fn content(s: &[u8], at: usize, len: usize) -> &[u8]
     requires { ⌜ at + 3 + len ≤ length (now s) ⌝ }
     ensures { λ r. ⌜ (now r ≡ take len (drop (at + 3) (now (s .entry)))) × (r .ptr .0 ≡ s .entry .ptr .0) × (r .ptr .1 ≡ at + 3 + s .entry .ptr .1) ⌝ }
 {
-    let from = at + 3;
+    let from = at + HEADER;
     let to = from + len;
     &s[from..to]
 }
@@ -68,7 +65,7 @@ pub fn next_at(s: &[u8], at: usize) -> usize
     ensures { λ r. ⌜ r ≡ nextIn at (frontOf (drop at (now (s .entry)))) ⌝ }
 {
     match field_at(s, at) {
-        Found::Whole(_, len) => at + 3 + len,
+        Found::Whole(_, len) => at + HEADER + len,
         Found::Cut => at,
         Found::End => at,
     }

@@ -1,20 +1,14 @@
 // Reads a rule file on standard input and prints its listing: its states, model and verdicts, or its refusal.
+use declarations::Known;
 use libc::STDIN_FILENO;
 use libc::STDOUT_FILENO;
-use refusals::Known;
 ghost use Prim.Native.Nat.{_+_, _≤_};
 ghost use mathlib.Core.Path.{_≡_};
 ghost use lib.ListN.{length};
 ghost use Rattle.meaning.specs.Calls.{roundsOf, atomsOf};
-ghost use Rattle.refusals.specs.Known.{Knows, fieldsRead};
-ghost use Rattle.lines.specs.Listing.{Results};
+ghost use Rattle.declarations.specs.Known.{Knows, fieldsRead};
+ghost use Rattle.listing_text.specs.Listing.{Results};
 ghost use Rattle.analysis.specs.Given.{Filled};
-
-fn wide(b: u8) -> usize
-    ensures { λ r. ⌜ r ≡ b ⌝ }
-{
-    b as usize
-}
 
 // Where the next piece is put: after the last one, or at the start of the buffer, which is written out where it has no room for a piece.
 fn flush(out: &[u8], at: usize) -> usize
@@ -41,12 +35,12 @@ fn print_pieces(
 )
     requires { ⌜ Results (now file) (now states) (now marks) (now verdicts) × Knows known (fieldsRead (now file)) × (atoms ≡ length (atomsOf (now file))) × (rounds ≡ roundsOf (now file)) × (128 ≤ length (now out)) ⌝ }
 {
-    let count = lines::piece_count(file, states, marks, verdicts);
+    let count = listing_text::piece_count(states, marks, verdicts);
     let mut at = 0;
     let mut k = 0;
     while k < count {
         let next = flush(out, at);
-        at = lines::put_piece(
+        at = listing_text::put_piece(
             out,
             next,
             k,
@@ -76,12 +70,12 @@ fn print_results(
 )
     requires { ⌜ Filled (now file) m (now states) (now marks) (now verdicts) × (atoms ≡ length (atomsOf (now file))) × (rounds ≡ roundsOf (now file)) × (128 ≤ length (now out)) ⌝ }
 {
-    let reading = rules::read(file);
+    let reading = parser::read(file);
     let known = reading.known;
     let counts = known.counts;
     let predicates = known.predicates;
-    let p = wide(counts[4]);
-    let queries = wide(counts[6]);
+    let p = bytes::wide(counts[declarations::PREDICATES]);
+    let queries = bytes::wide(counts[declarations::QUERIES]);
     let size = cells::cells_of(&predicates[..p], m);
     print_pieces(
         file,

@@ -1,18 +1,11 @@
 -- The text at the start of a buffer: what it is, and that it ends inside. Assumes nothing.
-use Prim.Native.Nat.{ℕ, _+_, _≤_}
-use mathlib.Core.Path.{_≡_, refl, sym, ap, ap₂, _∙_}
-use mathlib.Core.Logic.{_≢_}
-use mathlib.Core.Bool.{Bool, cond}
-use mathlib.Core.List.{List, [], _++_}
-use native.Mathlib.Omega.{arith}
-use lib.ListN.{length, take, drop, length-append}
-use borrow.Author.Tests.{ne-eqb}
-use Rattle.meaning.specs.Refusals.{Answer, ok}
-use Rattle.text.specs.Pasted.{pasted, Put}
-use Rattle.text.proofs.Pasted.{pasted-nil, take-pasted}
-use Rattle.meaning.specs.Calls.{Buffers, Analysed, analysisAnswer, analysed}
-use Rattle.lines.specs.Lines.{refusedLine, refusalText}
-use Rattle.accept.specs.Accepted.{answered}
+use Rattle.meaning.proofs.Prelude.{ℕ, _+_, _≤_, _≡_, sym, ap, _∙_, ap₂, _≢_, cond, Bool, List, [], _++_, length, length-append, take, drop}
+use Rattle.meaning.proofs.Prelude.{arith, ne-eqb}
+use Rattle.meaning.proofs.Definitions.{Answer, ok, Buffers, Analysed, analysisAnswer, analysed}
+use Rattle.bytes.specs.Pasted.{pasted, Put}
+use Rattle.bytes.proofs.Pasted.{pasted-nil, take-pasted}
+use Rattle.listing_text.specs.Lines.{refusedLine, refusalText}
+use Rattle.acceptance.specs.Accepted.{answered}
 use Rattle.analysis.specs.Given.{given}
 use Rattle.analysis.specs.declared.Analysis.{Analysis}
 

@@ -3,8 +3,8 @@ use mathlib.Core.Path.{_≡_}
 use mathlib.Core.List.{List}
 use Prim.Native.Nat.{ℕ}
 use Rattle.meaning.specs.Calls.{Buffers, analysisAnswer, analysed}
-use Rattle.text.specs.Pasted.{Put}
-use Rattle.lines.specs.Lines.{refusalText}
+use Rattle.bytes.specs.Pasted.{Put}
+use Rattle.listing_text.specs.Lines.{refusalText}
 use Rattle.analysis.specs.Given.{given}
 use Rattle.listing_answer.specs.declared.Answered.{Answered}
 

@@ -27,6 +27,6 @@ pub fn answer(
     if answer.number == 0 {
         return Answered { analysis, text: 0 };
     }
-    let text = lines::put_refusal(out, 0, answer.number, answer.place);
+    let text = listing_text::put_refusal(out, 0, answer.number, answer.place);
     Answered { analysis, text }
 }

@@ -1,26 +1,15 @@
 -- A file is accepted exactly if it is the encoding of legal rules with at most 16 states, and then it says those rules. Assumes nothing.
-use Prim.Native.Nat.{ℕ, _≤_, _<_}
-use mathlib.Core.Path.{_≡_, refl, sym, ap, ap₂, subst, subst₂, subst₃, _∙_, fun-ext}
-use mathlib.Core.Logic.{_↔_, _≢_, inl, inr}
-use mathlib.Core.Bool.{Bool, true, false, cond, not}
-use mathlib.Core.List.{List, [], _∷_, _++_, map, map-append, append-nil, List·Memᴰ}
-use mathlib.Core.Option.{Option, none, some}
-use native.Mathlib.Nat.{le-trans, le-of-eq, not-le-of-lt}
-use native.Mathlib.Decide.{decLe}
-use native.Mathlib.Omega.{arith}
-use lib.Dec.{T, eqb, lit≤}
-use lib.ListN.{length, getD, take, drop, length-map}
-use Rattle.meaning.specs.Lists.{All, joined}
-use Rattle.meaning.specs.Syntax.{Named, Production, Clause, Query, Rules}
-use Rattle.meaning.specs.Limits.{Kind, symbol, type, production, predicate, clause, query, tagOf, mostOf, mostSymbolArity, mostPredicateArity, mostFileBytes, mostContent, mostStates, firstVariable}
-use Rattle.meaning.specs.Fields.{Bytes, Field, whole, cut, fields, contentsOf, encodeField}
-use Rattle.meaning.specs.Contents.{isSome, isName, isNamed, isProduction, readClause, readQuery}
-use Rattle.meaning.specs.Encoding.{encodeNamed, encodeProduction, encodeClause, encodeQuery, contentsFor, encodeKind, kinds, encodeRules}
-use Rattle.meaning.specs.Legal.{arities, names, WellProduction, WellClause, WellQuery, NoneTwice, Legal}
-use Rattle.meaning.specs.Refusals.{namesIn, isRefused, refused, accepted, contents, firstByte, aritiesIn, typesIn, laidOutAfter, isCut, firstRefused}
-use Rattle.meaning.specs.States.{MoreStates}
-use Rattle.meaning.specs.Files.{readAll, named, productionOf, rulesIn, rulesOf, statesFor, fileAnswer}
-use Rattle.meaning.specs.Given.{NoneFits, NoneRefused, HasConstant, Given, Accepted, Acceptable}
+use Rattle.meaning.proofs.Prelude.{ℕ, _≤_, _<_, _≡_, refl, sym, ap, _∙_, subst, subst₂, ap₂, subst₃, fun-ext, _≢_, inl, inr, _↔_, cond, Bool}
+use Rattle.meaning.proofs.Prelude.{true, false, not, Option, none, some, List, [], _∷_, map, _++_, List·Memᴰ, map-append, append-nil, T, lit≤}
+use Rattle.meaning.proofs.Prelude.{eqb, length, length-map, getD, take, drop, le-trans, le-of-eq, not-le-of-lt, decLe, arith}
+use Rattle.meaning.proofs.Definitions.{All, joined, Named, Production, Clause, Query, Rules, Kind, symbol, type, production, predicate, clause}
+use Rattle.meaning.proofs.Definitions.{query, tagOf, mostOf, mostSymbolArity, mostPredicateArity, mostFileBytes, mostContent, mostStates}
+use Rattle.meaning.proofs.Definitions.{firstVariable, Bytes, Field, whole, cut, fields, contentsOf, encodeField, isSome, isName, isNamed}
+use Rattle.meaning.proofs.Definitions.{isProduction, readClause, readQuery, encodeNamed, encodeProduction, encodeClause, encodeQuery}
+use Rattle.meaning.proofs.Definitions.{contentsFor, encodeKind, kinds, encodeRules, arities, names, WellProduction, WellClause, WellQuery}
+use Rattle.meaning.proofs.Definitions.{NoneTwice, Legal, namesIn, isRefused, refused, accepted, contents, firstByte, aritiesIn, typesIn}
+use Rattle.meaning.proofs.Definitions.{laidOutAfter, isCut, firstRefused, MoreStates, readAll, named, productionOf, rulesIn, rulesOf}
+use Rattle.meaning.proofs.Definitions.{statesFor, fileAnswer, NoneFits, NoneRefused, HasConstant, Given, Accepted, Acceptable}
 use Rattle.meaning.proofs.Lists.{joined-append, All-map}
 use Rattle.meaning.proofs.Contents.{isSome-give, cons-same, conditionTypes, isNamed-exact, isProduction-exact, readClause-back, readClause-exact, readQuery-back, readQuery-exact}
 use Rattle.meaning.proofs.Fields.{NoField, firstField-none, fields-nil, fields-joined, fields-length, fields-whole, encodeWhole, contentsOf-append}

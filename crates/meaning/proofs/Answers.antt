@@ -1,22 +1,12 @@
 -- The answer to a file is the first number of 01's table that fits, at the lowest place where it fits. Assumes nothing.
-use Prim.Native.Nat.{ℕ, _≤_, _<_}
-use mathlib.Core.Path.{_≡_, refl, sym, ap, ap₂, subst, subst₂, _∙_}
-use mathlib.Core.Logic.{_⊎_, inl, inr, ⊎-elim, _↔_, _≢_}
-use mathlib.Core.Bool.{Bool, true, false, cond, not}
-use mathlib.Core.List.{List, List·Memᴰ, Memᴰ·cast}
-use mathlib.Core.Option.{Option, none, some}
-use native.Mathlib.Nat.{ne-of-gt}
-use native.Mathlib.Omega.{arith}
-use lib.Dec.{T, eqb, ltb, ltb→lt, lt→ltb, nltb→le, eqb→eq}
+use Rattle.meaning.proofs.Prelude.{ℕ, _≤_, _<_, _≡_, refl, sym, ap, _∙_, subst, subst₂, ap₂, _≢_, ⊎-elim, _⊎_, inl, inr, _↔_, cond, Bool, true}
+use Rattle.meaning.proofs.Prelude.{false, not, Option, none, some, List, List·Memᴰ, Memᴰ·cast, ltb, T, eqb, eqb→eq, lt→ltb, ltb→lt, nltb→le}
+use Rattle.meaning.proofs.Prelude.{length, getD, take, ne-of-gt, arith}
 use lib.Arith.{le→nltb}
-use lib.ListN.{length, getD, take}
-use Rattle.meaning.specs.Lists.{anyOf}
-use Rattle.meaning.specs.Limits.{mostFileBytes, mostStates}
-use Rattle.meaning.specs.Fields.{Field, cut, fields, firstField}
-use Rattle.meaning.specs.Refusals.{Answer, refused, accepted, ok, andThen, refuseIf, isRefused, isCut, wrongTag, tooMany, malformed, nameTaken, refusal, firstRefused, noConstant}
-use Rattle.meaning.specs.Legal.{arities}
-use Rattle.meaning.specs.Files.{rulesOf, statesFor, answerAt, readAnswer, fileAnswer}
-use Rattle.meaning.specs.Given.{FirstOf, NoneOf, FirstFits, NoneFits, FirstRefusal, NoneRefused, HasConstant, GivenReading}
+use Rattle.meaning.proofs.Definitions.{anyOf, mostFileBytes, mostStates, Field, cut, fields, firstField, Answer, refused, accepted, ok}
+use Rattle.meaning.proofs.Definitions.{andThen, refuseIf, isRefused, isCut, wrongTag, tooMany, malformed, nameTaken, refusal, firstRefused}
+use Rattle.meaning.proofs.Definitions.{noConstant, arities, rulesOf, statesFor, answerAt, readAnswer, fileAnswer, FirstOf, NoneOf, FirstFits}
+use Rattle.meaning.proofs.Definitions.{NoneFits, FirstRefusal, NoneRefused, HasConstant, GivenReading}
 use Rattle.meaning.proofs.Lists.{clash, not-not, not-not-intro, not-intro, decide, any-find, any-give, lowest-some, lowest-nowhere, lowest-is, lowest-none, cond-yes, cond-no}
 
 choose : (a b c d e : Bool) → ℕ

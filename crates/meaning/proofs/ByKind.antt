@@ -1,27 +1,16 @@
 -- The fields of a file by their kinds: fields that no number refuses are the kinds' fields one kind after the other, each within the limits,
 -- laid out and with a name of its own; and back. Assumes nothing.
-use Prim.Native.Nat.{ℕ, zero, suc, _+_, _-_, _≤_, _<_, zero-le}
-use mathlib.Core.Path.{_≡_, refl, sym, ap, ap₂, subst, _∙_}
-use mathlib.Core.Logic.{_⊎_, inl, inr, ⊎-elim, _↔_, _≢_}
-use mathlib.Core.Bool.{Bool, not}
-use mathlib.Core.List.{List, [], _∷_, _++_, map, map-append, append-nil}
-use mathlib.Core.Option.{Option, some}
-use native.Mathlib.Nat.{le-refl, le-of-eq, le-trans, not-suc-le-zero, eq-or-lt-of-le, lt-irrefl}
-use native.Mathlib.Decide.{decLt}
-use native.Mathlib.Omega.{arith}
-use lib.Dec.{T, eqb, ltb, eqb→eq, eqb-refl, nleb→lt, nltb→le, lit≤, lit<}
+use Rattle.meaning.proofs.Prelude.{ℕ, _+_, _≤_, _-_, _<_, zero, suc, zero-le, _≡_, refl, sym, ap, _∙_, subst, ap₂, _≢_, ⊎-elim, _⊎_, inl, inr}
+use Rattle.meaning.proofs.Prelude.{_↔_, Bool, not, Option, some, List, [], _∷_, map, _++_, map-append, append-nil, ltb, T, lit<, lit≤, eqb}
+use Rattle.meaning.proofs.Prelude.{eqb→eq, eqb-refl, nltb→le, nleb→lt, length, length-append, length-map, getD, drop, List·getD-append}
+use Rattle.meaning.proofs.Prelude.{getD-append-add, append-snoc, le-trans, not-suc-le-zero, eq-or-lt-of-le, le-refl, le-of-eq, lt-irrefl}
+use Rattle.meaning.proofs.Prelude.{decLt, arith}
 use lib.Arith.{le→nltb, lt→nleb}
-use lib.ListN.{length, getD, drop, length-append, length-map, List·getD-append}
-use lib.Seq.{append-snoc, getD-append-add}
-use Rattle.meaning.specs.Lists.{anyOf, All, same}
-use Rattle.meaning.specs.Limits.{Kind, symbol, type, production, predicate, clause, query, tagOf, mostOf, mostContent}
-use Rattle.meaning.specs.Fields.{Field, whole, cut, contentsOf}
-use Rattle.meaning.specs.Contents.{isSome, isProduction, readClause, readQuery}
-use Rattle.meaning.specs.Refusals.{isRefused, kindOf, testKind, contents, firstByte, namesIn, laidOutAfter, lastTag}
-use Rattle.meaning.specs.Legal.{NoneTwice}
+use Rattle.meaning.proofs.Definitions.{anyOf, All, same, Kind, symbol, type, production, predicate, clause, query, tagOf, mostOf, mostContent}
+use Rattle.meaning.proofs.Definitions.{Field, whole, cut, contentsOf, isSome, isProduction, readClause, readQuery, isRefused, kindOf, testKind}
+use Rattle.meaning.proofs.Definitions.{contents, firstByte, namesIn, laidOutAfter, lastTag, NoneTwice, NoneFits}
 use Rattle.meaning.proofs.Lists.{decide, clash, not-not, not-not-intro, not-intro, neither, neither-of, any-find, any-give, any-append, All-append, All-split, mem-getD, mem-place, same-eq, eq-same, cond-yes, cond-no}
 use Rattle.meaning.proofs.Contents.{Post, post-at, post-cond, isSome-find, isSome-give}
-use Rattle.meaning.specs.Given.{NoneFits}
 use Rattle.meaning.proofs.Answers.{not-refused}
 use Rattle.meaning.proofs.Fields.{NoField, contentsOf-append}
 

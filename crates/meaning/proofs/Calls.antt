@@ -1,19 +1,11 @@
 -- The public calls: when each hands back 0, when each of 9 to 14, and what the buffers and counts are then. Assumes nothing.
-use Prim.Native.Nat.{ℕ, _≤_, _<_}
-use mathlib.Core.Path.{_≡_, refl, sym, ap, subst, _∙_}
-use mathlib.Core.Logic.{_⊎_, inl, inr, ⊎-elim, _↔_, _≢_}
-use mathlib.Core.Bool.{Bool, true, false, cond, not, _&&_}
-use mathlib.Core.List.{List}
-use native.Mathlib.Decide.{ℕ-discrete}
-use native.Mathlib.Omega.{arith}
-use lib.Dec.{T, eqb, leb, eqb→eq, leb→le, le→leb}
-use lib.ListN.{length, length-map}
-use Rattle.meaning.specs.Cells.{cells}
-use Rattle.meaning.specs.Refusals.{Answer, refused, accepted, ok, andThen, refuseIf}
-use Rattle.meaning.specs.Files.{fileAnswer, rulesOf}
-use Rattle.meaning.specs.Clauses.{model}
-use Rattle.meaning.specs.Certificates.{encodeSheet, sheetAnswer}
-use Rattle.meaning.specs.Calls.{statesOf, stepOf, interpretationOf, symbolArities, predicateArities, tablesOf, modelOf, roundsOf, atomsOf, verdictOf, verdictsOf, holds, filled, Buffers, longEnough, LongEnough, analysisDone, Lent, lentEnough, LentEnough, analysisAnswer, analysed, writingAnswer, writtenIn, withoutSheet, lentAnswer, checkAnswer, checkDone, checked}
+use Rattle.meaning.proofs.Prelude.{ℕ, _≤_, _<_, _≡_, refl, sym, ap, _∙_, subst, _≢_, ⊎-elim, _⊎_, inl, inr, _↔_, Bool, true, false, not}
+use Rattle.meaning.proofs.Prelude.{_&&_, List, T, leb→le, eqb, eqb→eq, le→leb, length, length-map, ℕ-discrete, arith}
+use Rattle.meaning.proofs.Definitions.{cells, Answer, refused, accepted, ok, andThen, refuseIf, fileAnswer, rulesOf, model, encodeSheet}
+use Rattle.meaning.proofs.Definitions.{sheetAnswer, statesOf, stepOf, interpretationOf, symbolArities, predicateArities, tablesOf, modelOf}
+use Rattle.meaning.proofs.Definitions.{roundsOf, atomsOf, verdictOf, verdictsOf, holds, filled, Buffers, longEnough, LongEnough, analysisDone}
+use Rattle.meaning.proofs.Definitions.{Lent, lentEnough, LentEnough, analysisAnswer, analysed, writingAnswer, writtenIn, withoutSheet}
+use Rattle.meaning.proofs.Definitions.{lentAnswer, checkAnswer, checkDone, checked}
 use Rattle.meaning.proofs.Lists.{decide, clash, both, both-of, cond-yes, cond-no, not-intro, not-not-intro}
 use Rattle.meaning.proofs.Answers.{then-next, then-first, if-no, file-number}
 use Rattle.meaning.proofs.Certificates.{check-number}

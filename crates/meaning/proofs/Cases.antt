@@ -1,23 +1,15 @@
 -- The cases A to J of 01, the reefs, the limits and refusals, and the calls with every byte of every buffer, as rows of one table under one theorem, proved
 -- by computing the definitions. Assumes nothing.
-use Prim.Native.Nat.{ℕ, _+_}
-use mathlib.Core.Bool.{Bool, cond}
-use mathlib.Core.List.{List, [], _∷_, _++_, map}
-use lib.Dec.{T}
-use lib.ListN.{length, replicate}
-use Rattle.meaning.specs.Lists.{anyOf, allOf, same, joined, table}
-use Rattle.meaning.specs.Syntax.{Term, var, app, end, _▸_, Named, Production, Atom, Clause, Condition, isOf, notOf, free, Query, Rules}
-use Rattle.meaning.specs.Limits.{tagOf, mostOf, mostFileBytes, mostContent}
-use Rattle.meaning.specs.Encoding.{kinds, encodeRules}
-use Rattle.meaning.specs.Fields.{fields, firstField, encodeField}
-use Rattle.meaning.specs.Contents.{nameByte, termWithin, readTerms, readAtom, readAtoms, readClause, readConditions, readQuery}
-use Rattle.meaning.specs.Refusals.{Answer, refusal, firstRefused}
-use Rattle.meaning.specs.Types.{signature, step, bit, has}
-use Rattle.meaning.specs.States.{determinise, cellOf, tables}
-use Rattle.meaning.specs.Files.{rulesIn, rulesOf, statesFor, readAnswer, fileAnswer}
-use Rattle.meaning.specs.Clauses.{brings, next, stage, rounds, model, isOpen}
-use Rattle.meaning.specs.Certificates.{encodeSheet, violated, checkFields, sheetAnswer, markedAtoms}
-use Rattle.meaning.specs.Calls.{symbolArities, predicateArities, statesOf, stepOf, interpretationOf, tablesOf, roundsOf, modelOf, atomsOf, verdictOf, verdictsOf, Buffers, Analysed, analysisAnswer, analysed, Written, writingAnswer, writtenIn, Checked, lentAnswer, checkAnswer, checked}
+use Rattle.meaning.proofs.Prelude.{ℕ, _+_, cond, Bool, List, [], _∷_, map, _++_, T, length, replicate}
+use Rattle.meaning.proofs.Definitions.{anyOf, allOf, same, joined, table, Term, var, app, end, _▸_, Named, Production, Atom, Clause, Condition}
+use Rattle.meaning.proofs.Definitions.{isOf, notOf, free, Query, Rules, tagOf, mostOf, mostFileBytes, mostContent, kinds, encodeRules, fields}
+use Rattle.meaning.proofs.Definitions.{firstField, encodeField, nameByte, termWithin, readTerms, readAtom, readAtoms, readClause}
+use Rattle.meaning.proofs.Definitions.{readConditions, readQuery, Answer, refusal, firstRefused, signature, step, bit, has, determinise}
+use Rattle.meaning.proofs.Definitions.{cellOf, tables, rulesIn, rulesOf, statesFor, readAnswer, fileAnswer, brings, next, stage, rounds, model}
+use Rattle.meaning.proofs.Definitions.{isOpen, encodeSheet, violated, checkFields, sheetAnswer, markedAtoms, symbolArities, predicateArities}
+use Rattle.meaning.proofs.Definitions.{statesOf, stepOf, interpretationOf, tablesOf, roundsOf, modelOf, atomsOf, verdictOf, verdictsOf}
+use Rattle.meaning.proofs.Definitions.{Buffers, Analysed, analysisAnswer, analysed, Written, writingAnswer, writtenIn, Checked, lentAnswer}
+use Rattle.meaning.proofs.Definitions.{checkAnswer, checked}
 
 -- what a row asks: the tags and the mosts of 01's table of kinds, with its other limits; the bytes that a name may have; of a rule file the answer to it, its bytes, the states, the tables, the number of atoms and the round count with the atoms, the verdicts,
 -- whether a domain atom is in the model, the answer to a sheet; the answers to the file with a field more, of a tag and with each of some contents; the answers to some sheets; what a call hands back, with so many places lent

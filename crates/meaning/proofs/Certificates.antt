@@ -1,26 +1,16 @@
 -- Sheets and their bytes, and the check: it accepts exactly the valid certificates, and each refusal names the lowest place that it fits.
 -- Assumes nothing.
-use Prim.Native.Nat.{ℕ, zero, suc, _+_, _*_, _^_, _<_, suc-le-suc, max}
-use mathlib.Core.Path.{_≡_, refl, sym, ap, ap₂, subst, _∙_}
-use mathlib.Core.Logic.{_↔_, _≢_, _⊎_, inl, inr, ⊎-elim, Iff·trans}
-use mathlib.Core.Bool.{Bool, true, false, cond, not, _&&_, _||_}
-use mathlib.Core.List.{List, [], _∷_, _++_, map, append-nil, List·Memᴰ, List·Memᴰ·head, List·Memᴰ·tail, Memᴰ·cast}
-use mathlib.Core.Option.{Option, none, some, Option·none-ne-some, Option·some-ne-none, Option·some-injective}
-use native.Mathlib.Nat.{zero-lt-suc}
-use native.Mathlib.Omega.{arith}
-use lib.Dec.{T, eqb, ltb, eqb→eq, eqb-refl, ltb→lt, lt→ltb}
+use Rattle.meaning.proofs.Prelude.{ℕ, _+_, _<_, zero, suc, _^_, _*_, max, suc-le-suc, _≡_, refl, sym, ap, _∙_, subst, ap₂, _≢_, ⊎-elim, _⊎_}
+use Rattle.meaning.proofs.Prelude.{inl, inr, _↔_, Iff·trans, cond, Bool, true, false, not, _&&_, _||_, Option, none, some, Option·some-ne-none}
+use Rattle.meaning.proofs.Prelude.{Option·none-ne-some, Option·some-injective, List, [], _∷_, map, _++_, List·Memᴰ, List·Memᴰ·head}
+use Rattle.meaning.proofs.Prelude.{List·Memᴰ·tail, append-nil, Memᴰ·cast, ltb, T, eqb, eqb→eq, eqb-refl, lt→ltb, ltb→lt, length, length-append}
+use Rattle.meaning.proofs.Prelude.{getD, take, getElem?, length-take-le, ext-getD, getD-take, zero-lt-suc, arith}
 use lib.Arith.{digits-div, digits-mod}
-use lib.ListN.{length, getD, take, length-append, getElem?}
-use lib.Seq.{getD-take, length-take-le, ext-getD}
-use Rattle.meaning.specs.Lists.{anyOf, allOf, All, same, lowest, joined}
-use Rattle.meaning.specs.Syntax.{Clause}
-use Rattle.meaning.specs.Limits.{stateTag, atomTag}
-use Rattle.meaning.specs.Fields.{Bytes, Field, whole, cut, word, fields, contentsOf, encodeField, firstField}
-use Rattle.meaning.specs.Refusals.{Answer, refused, accepted, isCut}
-use Rattle.meaning.specs.Legal.{NoneTwice}
-use Rattle.meaning.specs.Cells.{rowOf}
-use Rattle.meaning.specs.Clauses.{AtomSet, IsValuation, termStates, InstanceIn, instanceIn, Closed}
-use Rattle.meaning.specs.Certificates.{stateBytes, encodeSheet, IsSheetAtom, LaidOut, Carries, InSheet, Valid, isAtomContent, misplaced, statesIn, differ, wrongAtom, among, violated, violatedAt, refusedAt, checkFields, sheetAnswer, GivenSheet, Violation, LowestViolation}
+use Rattle.meaning.proofs.Definitions.{anyOf, allOf, All, same, lowest, joined, Clause, stateTag, atomTag, Bytes, Field, whole, cut, word}
+use Rattle.meaning.proofs.Definitions.{fields, contentsOf, encodeField, firstField, Answer, refused, accepted, isCut, NoneTwice, rowOf}
+use Rattle.meaning.proofs.Definitions.{AtomSet, termStates, InstanceIn, instanceIn, Closed, stateBytes, encodeSheet, IsSheetAtom, LaidOut}
+use Rattle.meaning.proofs.Definitions.{Carries, InSheet, Valid, isAtomContent, misplaced, statesIn, differ, wrongAtom, among, violated}
+use Rattle.meaning.proofs.Definitions.{violatedAt, refusedAt, checkFields, sheetAnswer, GivenSheet, Violation, LowestViolation}
 use Rattle.meaning.proofs.Contents.{declared-exact}
 use Rattle.meaning.proofs.Lists.{decide, trichotomy, T-of, clash, not-not, not-not-intro, not-intro, both, both-of, neither, neither-of, any-find, any-give, all-facts, facts-all, All-map, mem-getD, mem-place, anyBelow-find, anyBelow-give, lowest-some, lowest-nowhere, lowest-is, lowest-none, eq-same, same-eq, same-refl}
 use Rattle.meaning.proofs.Fields.{word-halves, fields-each, fields-joined, fields-nil, encodeWhole, fields-whole, FieldBytes, fields-bytes, contentsOf-append, contentsOf-same, contentsOf-other, NoneBy, NoneBy-places, NoField, NoField-append, firstField-none}

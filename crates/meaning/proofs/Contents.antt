@@ -1,22 +1,15 @@
 -- The readers of specs/Contents.antt against the encoders of specs/Encoding.antt: what is read is exactly what was encoded, and well formed.
 -- Assumes nothing.
-use Prim.Native.Nat.{ℕ, zero, suc, _+_, _-_, _*_, _≤_, _<_}
-use mathlib.Core.Path.{_≡_, refl, sym, ap, ap₂, subst, _∙_}
-use mathlib.Core.Logic.{_↔_}
-use mathlib.Core.Bool.{Bool, true, false, cond, not, _&&_}
-use mathlib.Core.List.{List, [], _∷_, _++_, map, append-assoc, append-nil, nil≢cons, tail-eq-of-cons-eq}
-use mathlib.Core.Option.{Option, none, some}
-use native.Mathlib.Nat.{le-trans, not-suc-le-zero, le-refl, lt-irrefl}
-use native.Mathlib.Omega.{arith}
-use lib.Dec.{T, eqb, leb, ltb, ltb→lt, lt→ltb, leb→le, le→leb, eqb→eq, eqb-refl, not-T}
-use lib.ListN.{length, getD, length-append}
-use Rattle.meaning.specs.Lists.{allOf, All, joined}
-use Rattle.meaning.specs.Syntax.{Term, Terms, var, app, end, _▸_, termCount, Atom, Clause, Condition, isOf, notOf, free, Query}
-use Rattle.meaning.specs.Limits.{mostVariables, mostBody, firstVariable, freeByte}
-use Rattle.meaning.specs.Contents.{readTerm, Read, _>>=_, provided, complete, isSome, isName, isNamed, declared, isProduction, termWithin, termsWithin, readTerms, readAtom, readAtoms, readClause, readCondition, readConditions, readQuery}
-use Rattle.meaning.specs.Encoding.{encodeTerm, encodeTerms, encodeAtom, encodeNamed, encodeProduction, encodeClause, encodeCondition, encodeQuery}
-use Rattle.meaning.specs.Legal.{Declared, WellTerm, WellTerms, WellAtom, WellProduction, WellClause, WellCondition, WellQuery}
-use Rattle.meaning.specs.Files.{named, productionOf}
+use Rattle.meaning.proofs.Prelude.{ℕ, _+_, _≤_, _-_, _<_, zero, suc, _*_, _≡_, refl, sym, ap, _∙_, subst, ap₂, _↔_, cond, Bool, true, false}
+use Rattle.meaning.proofs.Prelude.{not, _&&_, Option, none, some, List, [], _∷_, map, _++_, append-assoc, append-nil, tail-eq-of-cons-eq}
+use Rattle.meaning.proofs.Prelude.{nil≢cons, ltb, T, leb, leb→le, eqb, eqb→eq, eqb-refl, lt→ltb, le→leb, ltb→lt, not-T, length, length-append}
+use Rattle.meaning.proofs.Prelude.{getD, le-trans, not-suc-le-zero, le-refl, lt-irrefl, arith}
+use Rattle.meaning.proofs.Definitions.{allOf, All, joined, Term, Terms, var, app, end, _▸_, termCount, Atom, Clause, Condition, isOf, notOf}
+use Rattle.meaning.proofs.Definitions.{free, Query, mostVariables, mostBody, firstVariable, freeByte, readTerm, Read, _>>=_, provided}
+use Rattle.meaning.proofs.Definitions.{complete, isSome, isName, isNamed, declared, isProduction, termWithin, termsWithin, readTerms, readAtom}
+use Rattle.meaning.proofs.Definitions.{readAtoms, readClause, readCondition, readConditions, readQuery, encodeTerm, encodeTerms, encodeAtom}
+use Rattle.meaning.proofs.Definitions.{encodeNamed, encodeProduction, encodeClause, encodeCondition, encodeQuery, Declared, WellTerm}
+use Rattle.meaning.proofs.Definitions.{WellTerms, WellAtom, WellProduction, WellClause, WellCondition, WellQuery, named, productionOf}
 use Rattle.meaning.proofs.Lists.{both, both-of, all-facts, facts-all, All-map, cond-yes, cond-no}
 
 -- a value read off the front of some bytes, and the bytes after it

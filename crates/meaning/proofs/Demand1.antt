@@ -1,24 +1,15 @@
 -- Demand 1 is met, whatever the file (specs/Demand1.antt). Assumes nothing.
-use Prim.Native.Nat.{ℕ, _≤_, _<_}
-use mathlib.Core.Path.{_≡_, refl, sym, ap, subst, _∙_}
-use mathlib.Core.Logic.{_⊎_, inl, inr, ⊎-elim, _↔_, _≢_}
-use mathlib.Core.Bool.{Bool, not}
-use mathlib.Core.List.{List}
-use native.Mathlib.Decide.{decLt}
-use native.Mathlib.Omega.{arith}
-use lib.Dec.{T, leb, leb→le, le→leb}
-use lib.ListN.{length}
-use Rattle.meaning.specs.Fields.{Bytes}
-use Rattle.meaning.specs.Refusals.{Answer, refused, accepted, andThen, refuseIf}
-use Rattle.meaning.specs.Files.{rulesOf, fileAnswer}
-use Rattle.meaning.specs.Certificates.{encodeSheet, sheetAnswer, GivenSheet}
-use Rattle.meaning.specs.Calls.{predicateArities, statesOf, interpretationOf, atomsOf, holds, Buffers, longEnough, LongEnough, Analysed, analysisAnswer, analysed, AnalysisOf, analysisDone, filled, Written, writingAnswer, writtenIn, WrittenInOrder, withoutSheet, Lent, lentEnough, LentEnough, lentAnswer, Checked, checkAnswer, checked, CheckOf, checkDone}
-use Rattle.meaning.specs.Given.{Given, Accepted, GivenAnalysis, GivenWriting, GivenCheck, Acceptable}
-use Rattle.meaning.specs.Demand1.{Demand1}
+use Rattle.meaning.proofs.Prelude.{ℕ, _<_, _≡_, sym, ap, _∙_, _≢_, ⊎-elim, _⊎_, inl, inr, _↔_, Bool, not, List, T}
+use Rattle.meaning.proofs.Prelude.{leb→le, le→leb, length, decLt, arith}
+use Rattle.meaning.proofs.Definitions.{Bytes, Answer, refused, accepted, andThen, refuseIf, rulesOf, fileAnswer, encodeSheet, sheetAnswer}
+use Rattle.meaning.proofs.Definitions.{predicateArities, statesOf, interpretationOf, atomsOf, holds, Buffers, longEnough, LongEnough, Analysed}
+use Rattle.meaning.proofs.Definitions.{analysisAnswer, analysed, AnalysisOf, Written, writingAnswer, writtenIn, WrittenInOrder, withoutSheet}
+use Rattle.meaning.proofs.Definitions.{Lent, lentEnough, LentEnough, lentAnswer, Checked, checkAnswer, checked, CheckOf, Given, Accepted}
+use Rattle.meaning.proofs.Definitions.{GivenAnalysis, GivenWriting, GivenCheck, Demand1}
 use Rattle.meaning.proofs.Answers.{zero-accepted}
 use Rattle.meaning.proofs.Acceptance.{acceptance-given, refusal-given, acceptable-exact}
 use Rattle.meaning.proofs.Certificates.{check-given}
-use Rattle.meaning.proofs.Calls.{long-exact, lent-exact, then-refused, unless-refused, analysis-zero, lent-zero, check-zero, analysis-number, lent-number, analysis-refused, analysis-filled, analysis-done, writing-done, writing-cases, writing-refused, check-cases, check-untouched, check-done}
+use Rattle.meaning.proofs.Calls.{long-exact, lent-exact, then-refused, unless-refused, analysis-zero, lent-zero, analysis-refused, analysis-filled, analysis-done, writing-done, writing-cases, writing-refused, check-cases, check-untouched, check-done}
 
 module _ (file : List ℕ) where
   -- a number 0 of 1 to 8 says that the file is accepted

@@ -1,27 +1,13 @@
 -- Demand 2 is met by what an analysis hands back with 0 (specs/Demand2.antt). Assumes nothing.
-use Prim.Native.Nat.{ℕ, zero, suc, _+_, _≤_, _<_}
-use mathlib.Core.Path.{_≡_, refl, sym, ap, subst, _∙_}
-use mathlib.Core.Logic.{_⊎_, inl, inr, ⊎-elim, _↔_, _≢_}
-use mathlib.Core.Bool.{cond, not}
-use mathlib.Core.List.{List, [], _∷_, map, List·Memᴰ}
-use mathlib.Core.Option.{some, Option·none-ne-some, Option·some-injective}
-use native.Mathlib.Nat.{zero-add}
-use native.Mathlib.Omega.{arith}
-use lib.Dec.{T, eqb, eqb→eq}
-use lib.ListN.{length, getD, take, drop, getElem?, length-append, length-map, List·getD-append}
-use lib.Seq.{take-at}
-use Rattle.meaning.specs.Lists.{All, Rising, nonzero, ones}
-use Rattle.meaning.specs.Syntax.{Tree, Trees, node, leaf, _▹_, treeCount, Production, Clause, Query}
-use Rattle.meaning.specs.Legal.{Declared, WellClause, WellQuery}
-use Rattle.meaning.specs.Types.{has, IsGround, AreGround, IsTypeSet, typesOf, step, signature}
-use Rattle.meaning.specs.Cells.{cell, start, cells}
-use Rattle.meaning.specs.States.{indexOf, determinise, lookUp}
-use Rattle.meaning.specs.Clauses.{AtomSet, IsAtom, place, marked, IsValuation, termStates, Stage, rounds, model, meetsAll, Open, isOpen}
-use Rattle.meaning.specs.Ground.{NoneDerivable}
-use Rattle.meaning.specs.Refusals.{accepted}
-use Rattle.meaning.specs.Files.{rulesOf, statesFor, fileAnswer}
-use Rattle.meaning.specs.Calls.{symbolArities, predicateArities, statesOf, stepOf, interpretationOf, tablesOf, roundsOf, modelOf, atomsOf, verdictOf, verdictsOf, written, Buffers, LongEnough, Analysed, AnalysisOf, analysisDone, Admitted}
-use Rattle.meaning.specs.Demand2.{IsStateOf, AreStatesOf, setsIn, interpretIn, markIn, InEveryClosed, Settled, OpenIn, Demand2}
+use Rattle.meaning.proofs.Prelude.{ℕ, _+_, _<_, zero, suc, _≡_, refl, sym, ap, _∙_, subst, ⊎-elim, _⊎_, inl, inr, _↔_, cond, not}
+use Rattle.meaning.proofs.Prelude.{some, Option·none-ne-some, Option·some-injective, List, [], _∷_, map, List·Memᴰ, T, eqb, eqb→eq, length}
+use Rattle.meaning.proofs.Prelude.{length-append, getD, take, drop, List·getD-append, getElem?, take-at, zero-add, arith}
+use Rattle.meaning.proofs.Definitions.{All, Rising, nonzero, ones, Tree, Trees, node, leaf, _▹_, treeCount, Production, Clause, Query}
+use Rattle.meaning.proofs.Definitions.{Declared, WellClause, WellQuery, IsGround, AreGround, IsTypeSet, cells, indexOf, AtomSet, IsAtom, place}
+use Rattle.meaning.proofs.Definitions.{marked, IsValuation, termStates, Stage, rounds, model, meetsAll, Open, isOpen, NoneDerivable, rulesOf}
+use Rattle.meaning.proofs.Definitions.{statesFor, symbolArities, predicateArities, statesOf, stepOf, interpretationOf, tablesOf, roundsOf}
+use Rattle.meaning.proofs.Definitions.{modelOf, atomsOf, verdictOf, verdictsOf, written, Buffers, Analysed, AnalysisOf, analysisDone, Admitted}
+use Rattle.meaning.proofs.Definitions.{IsStateOf, AreStatesOf, setsIn, interpretIn, markIn, InEveryClosed, Settled, OpenIn, Demand2}
 use Rattle.meaning.proofs.Lists.{clash, not-not, not-intro}
 use Rattle.meaning.proofs.Setting.{InRange, eachState}
 use Rattle.meaning.proofs.Types.{type-set-exact, declared-allowed}

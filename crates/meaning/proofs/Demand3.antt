@@ -1,25 +1,15 @@
 -- Demand 3 is met for every accepted file (specs/Demand3.antt); sheet checks with buffers long enough exist, for every file and sheet. Assumes nothing.
-use Prim.Native.Nat.{ℕ, _≤_}
-use mathlib.Core.Path.{_≡_, refl, sym, ap, subst, _∙_}
-use mathlib.Core.Logic.{_↔_}
-use mathlib.Core.List.{List}
-use native.Mathlib.Nat.{le-of-eq}
-use native.Mathlib.Omega.{arith}
-use lib.Dec.{T, eqb}
-use lib.ListN.{length, take, drop, length-append}
-use lib.Seq.{take-at}
-use Rattle.meaning.specs.Fields.{Bytes}
-use Rattle.meaning.specs.Refusals.{Answer, accepted, ok}
-use Rattle.meaning.specs.Certificates.{encodeSheet, InSheet, Valid, sheetAnswer}
-use Rattle.meaning.specs.Files.{rulesOf, fileAnswer}
-use Rattle.meaning.specs.Calls.{predicateArities, statesOf, interpretationOf, tablesOf, modelOf, atomsOf, written, Buffers, Written, writtenIn, writingAnswer, WrittenInOrder, ours, Lent, LentEnough, lentAnswer, Checked, checked, checkAnswer, CheckOf, Passes, Admitted}
-use Rattle.meaning.specs.Given.{Accepted}
-use Rattle.meaning.specs.Demand3.{Demand3}
+use Rattle.meaning.proofs.Prelude.{ℕ, _≤_, _≡_, refl, sym, ap, _∙_, subst, _↔_, List, T, eqb, length, length-append, take, drop, take-at}
+use Rattle.meaning.proofs.Prelude.{le-of-eq, arith}
+use Rattle.meaning.proofs.Definitions.{Bytes, Answer, accepted, ok, encodeSheet, InSheet, Valid, sheetAnswer, rulesOf, fileAnswer}
+use Rattle.meaning.proofs.Definitions.{predicateArities, statesOf, interpretationOf, tablesOf, modelOf, written, Buffers, Written, writtenIn}
+use Rattle.meaning.proofs.Definitions.{writingAnswer, WrittenInOrder, ours, Lent, LentEnough, lentAnswer, Checked, checked, checkAnswer}
+use Rattle.meaning.proofs.Definitions.{CheckOf, Passes, Admitted, Accepted, Demand3}
 use Rattle.meaning.proofs.Lists.{cond-yes}
 use Rattle.meaning.proofs.Answers.{then-next}
 use Rattle.meaning.proofs.Acceptance.{acceptance-given}
 use Rattle.meaning.proofs.Certificates as Certificates
-use Rattle.meaning.proofs.Calls.{tables-length, marks-length, lent-exact, lent-zero, ok-zero}
+use Rattle.meaning.proofs.Calls.{tables-length, marks-length, lent-exact, lent-zero}
 use Rattle.meaning.proofs.Theorems as theorems
 
 -- buffers that are just long enough, and what a sheet check hands back with them

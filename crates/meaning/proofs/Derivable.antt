@@ -1,20 +1,13 @@
 -- Derivability is neither empty nor out of reach of the conditions: what a ground instance of a clause brings from derivable atoms is derivable, whatever ground terms
 -- it gives to the variables; of rule set E, p(z), p(s(s(z))) and so on are, at every height; and NoneDerivable is false of a query with a derivable instance that meets
 -- its conditions. Assumes nothing.
-use Prim.Native.Nat.{ℕ, zero, suc, _<_}
-use mathlib.Core.Path.{_≡_, refl, sym, subst}
-use mathlib.Core.List.{List, [], _∷_, List·Memᴰ, List·Memᴰ·head, List·Memᴰ·tail, List·Memᴰ·not-nil, List·Memᴰ·eq-of-singleton}
-use native.Mathlib.Nat.{not-suc-le-zero, le-of-suc-le-suc}
-use lib.Dec.{T, ltb, ltb→lt, lit<}
-use lib.ListN.{length}
-use Rattle.meaning.specs.Lists.{allOf}
-use Rattle.meaning.specs.Syntax.{Tree, node, leaf, _▹_, Production, Atom, Clause, isOf, notOf, free, Query, Rules}
-use Rattle.meaning.specs.Legal.{arities}
-use Rattle.meaning.specs.Types.{signature, step, IsGround, OfType}
-use Rattle.meaning.specs.Ground.{grounds, IsSubstitution, Derivable, GroundMeetsAll, NoneDerivable}
-use Rattle.meaning.specs.Fields.{Bytes, fields}
-use Rattle.meaning.specs.Contents.{termWithin, readTerms, readAtom, readAtoms, readClause, readConditions, readQuery}
-use Rattle.meaning.specs.Files.{rulesIn, rulesOf}
+use Rattle.meaning.proofs.Prelude.{ℕ, _<_, zero, suc, _≡_, refl, sym, subst, List, [], _∷_, List·Memᴰ, List·Memᴰ·head, List·Memᴰ·tail}
+use Rattle.meaning.proofs.Prelude.{List·Memᴰ·not-nil, List·Memᴰ·eq-of-singleton, ltb, T, lit<, ltb→lt, length, not-suc-le-zero}
+use Rattle.meaning.proofs.Prelude.{le-of-suc-le-suc}
+use Rattle.meaning.proofs.Definitions.{allOf, Tree, node, leaf, _▹_, Production, Atom, Clause, isOf, notOf, free, Query, Rules, arities}
+use Rattle.meaning.proofs.Definitions.{signature, step, IsGround, OfType, grounds, IsSubstitution, Derivable, GroundMeetsAll, NoneDerivable}
+use Rattle.meaning.proofs.Definitions.{Bytes, fields, termWithin, readTerms, readAtom, readAtoms, readClause, readConditions, readQuery}
+use Rattle.meaning.proofs.Definitions.{rulesIn, rulesOf}
 use Rattle.meaning.proofs.Lists.{All-map, All-give, all-facts}
 use Rattle.meaning.proofs.Types.{types-exact}
 use Rattle.meaning.proofs.Cases.{E, rulesE, evenOddRules, X, Y, z, s, p, p₂, clause, query, name, to}

@@ -1,20 +1,13 @@
 -- The laws of bytes as fields: what `fields` does with encoded fields, and back; the lowest field that passes a test; contents by tag.
 -- Assumes nothing.
-use Prim.Native.Nat.{ℕ, zero, suc, _/_, _%_, _≤_, _<_, suc-le-suc}
-use mathlib.Core.Path.{_≡_, refl, sym, ap, ap₂, subst, subst₂, _∙_}
-use mathlib.Core.Logic.{_↔_}
-use mathlib.Core.Bool.{Bool, true, false, cond, not}
-use mathlib.Core.List.{List, [], _∷_, _++_, map, append-nil, append-assoc}
-use mathlib.Core.Option.{none, some}
-use native.Mathlib.Nat.{not-suc-le-zero, le-of-suc-le-suc, zero-lt-suc, le-refl, le-of-lt}
-use native.Mathlib.Omega.{arith}
-use lib.Dec.{T, eqb, leb, eqb-refl, leb→le, le→leb}
+use Rattle.meaning.proofs.Prelude.{ℕ, _≤_, _<_, zero, suc, _/_, _%_, suc-le-suc, _≡_, refl, sym, ap, _∙_, subst, subst₂, ap₂, _↔_, cond, Bool}
+use Rattle.meaning.proofs.Prelude.{true, false, not, none, some, List, [], _∷_, map, _++_, append-assoc, append-nil, T, leb, leb→le, eqb}
+use Rattle.meaning.proofs.Prelude.{eqb-refl, le→leb, length, length-append, getD, take, drop, List·getD-append, take-append-drop}
+use Rattle.meaning.proofs.Prelude.{length-take-le, drop-at, append-snoc, take-at, take-append-seam, take-append-le, getD-append-seam}
+use Rattle.meaning.proofs.Prelude.{not-suc-le-zero, le-of-suc-le-suc, zero-lt-suc, le-refl, le-of-lt, arith}
 use lib.Arith.{digits-div, digits-mod}
-use lib.ListN.{length, getD, take, drop, length-append, take-append-drop, List·getD-append}
-use lib.Seq.{append-snoc, length-take-le, take-at, drop-at, take-append-seam, take-append-le, getD-append-seam}
-use Rattle.meaning.specs.Lists.{All, joined}
-use Rattle.meaning.specs.Fields.{Bytes, Field, whole, cut, word, Front, empty, short, front, frontOf, onFront, fieldsWithin, fields, contentsOf, encodeField, firstField}
-use Rattle.meaning.specs.Refusals.{isCut}
+use Rattle.meaning.proofs.Definitions.{All, joined, Bytes, Field, whole, cut, word, Front, empty, short, front, frontOf, onFront, fieldsWithin}
+use Rattle.meaning.proofs.Definitions.{fields, contentsOf, encodeField, firstField, isCut}
 use Rattle.meaning.proofs.Lists.{T-of, cond-yes, cond-no, All-split, All-append, lowest-some, lowest-nowhere, lowest-is, lowest-none}
 
 -- a length is its two bytes

@@ -1,19 +1,10 @@
 -- Two interpretations that agree on declared symbols over states give the same instances, stages, model, verdicts and violations. Assumes nothing.
-use Prim.Native.Nat.{ℕ, zero, suc, _^_, _<_}
-use mathlib.Core.Path.{_≡_, refl, sym, ap, ap₂, subst, _∙_}
-use mathlib.Core.Bool.{Bool, not, _&&_, _||_}
-use mathlib.Core.List.{List, [], _∷_}
-use mathlib.Core.Option.{Option·getD}
-use native.Mathlib.Omega.{arith}
-use lib.Dec.{eqb}
-use lib.ListN.{length}
-use Rattle.meaning.specs.Lists.{allOf, anyBelow, All, same, lowest, table}
-use Rattle.meaning.specs.Syntax.{Term, Terms, var, app, end, _▸_, Atom, Clause, Query}
-use Rattle.meaning.specs.Legal.{Declared, WellTerm, WellTerms, WellAtom, WellClause, WellQuery}
-use Rattle.meaning.specs.Types.{bit}
-use Rattle.meaning.specs.Cells.{rowOf, cells}
-use Rattle.meaning.specs.Clauses.{IsValuation, termState, termStates, instanceIn, place, bringsUnder, marked, brings, next, stage, rounds, model, meetsAll, isOpen}
-use Rattle.meaning.specs.Certificates.{among, violated, violatedAt}
+use Rattle.meaning.proofs.Prelude.{ℕ, _<_, zero, suc, _^_, _≡_, refl, sym, ap, _∙_, subst, ap₂, Bool, not, _&&_, _||_, Option·getD, List, []}
+use Rattle.meaning.proofs.Prelude.{_∷_, eqb, length, arith}
+use Rattle.meaning.proofs.Definitions.{allOf, anyBelow, All, same, lowest, table, Term, Terms, var, app, end, _▸_, Atom, Clause, Query}
+use Rattle.meaning.proofs.Definitions.{Declared, WellTerm, WellTerms, WellAtom, WellClause, WellQuery, bit, rowOf, cells, IsValuation}
+use Rattle.meaning.proofs.Definitions.{termState, termStates, instanceIn, place, bringsUnder, marked, brings, next, stage, rounds, model}
+use Rattle.meaning.proofs.Definitions.{meetsAll, isOpen, among, violated, violatedAt}
 use Rattle.meaning.proofs.Setting.{InRange}
 use Rattle.meaning.proofs.Stages.{states-lt, length-statesOf}
 use Rattle.meaning.proofs.Cells.{valuation-of-number}

@@ -1,16 +1,11 @@
 -- The laws of the tests and facts of specs/Lists.antt: each quantifier has one law that finds and one that gives, and nothing else is known
 -- of it. Assumes nothing.
-use Prim.Native.Nat.{ℕ, zero, suc, _<_, suc-le-suc}
-use mathlib.Core.Path.{_≡_, refl, sym, ap, ap₂, subst, _∙_}
-use mathlib.Core.Logic.{_⊎_, inl, inr, ⊎-elim, _↔_}
-use mathlib.Core.Bool.{Bool, true, false, cond, not, _&&_, _||_}
-use mathlib.Core.List.{List, [], _∷_, _++_, append-assoc, List·Memᴰ, List·Memᴰ·head, List·Memᴰ·tail, List·Memᴰ·cases-cons, List·Memᴰ·not-nil, List·Memᴰ·append-cases, Memᴰ·append-left, Memᴰ·append-right}
-use mathlib.Core.Option.{Option, none, some}
-use native.Mathlib.Nat.{eq-or-lt-of-le, le-of-suc-le-suc, not-suc-le-zero, lt-suc-self, le-step, zero-lt-suc}
-use native.Mathlib.Decide.{decLt}
-use native.Mathlib.Omega.{arith}
-use lib.Dec.{T, eqb, eqb→eq, eqb-refl}
-use lib.ListN.{length, getD}
+use Rattle.meaning.proofs.Prelude.{ℕ, _<_, zero, suc, suc-le-suc, _≡_, refl, sym, ap, _∙_, subst, ap₂, ⊎-elim, _⊎_, inl, inr, _↔_, cond, Bool}
+use Rattle.meaning.proofs.Prelude.{true, false, not, _&&_, _||_, Option, none, some, List, [], _∷_, _++_, List·Memᴰ, List·Memᴰ·head}
+use Rattle.meaning.proofs.Prelude.{List·Memᴰ·tail, append-assoc, List·Memᴰ·not-nil, List·Memᴰ·cases-cons, List·Memᴰ·append-cases}
+use Rattle.meaning.proofs.Prelude.{Memᴰ·append-left, Memᴰ·append-right, T, eqb, eqb→eq, eqb-refl, length, getD, not-suc-le-zero, drop-at, take}
+use Rattle.meaning.proofs.Prelude.{le-of-suc-le-suc, lt-suc-self, le-step, eq-or-lt-of-le, zero-lt-suc, decLt, arith, drop, set, set-split}
+use Rattle.meaning.proofs.Prelude.{length-take-le}
 use Rattle.meaning.specs.Lists.{anyOf, allOf, All, anyBelow, lowest, LowestBelow, NoneBelow, same, joined, table}
 
 -- a test and its negation
@@ -309,3 +304,7 @@ same-refl (x ∷ xs) = both-of (eqb x x) (same xs xs) (eqb-refl x) (same-refl xs
 
 pub eq-same : (xs ys : List ℕ) → xs ≡ ys → T (same xs ys)
 eq-same xs ys e = subst (λ (l : List ℕ). T (same xs l)) e (same-refl xs)
+
+-- a list from the place on where it was set
+pub drop-set : (l : List ℕ) (i x : ℕ) → i < length l → drop i (set l i x) ≡ x ∷ drop (suc i) l
+drop-set l i x h = ap (drop i) (set-split l i x h) ∙ drop-at (take i l) (x ∷ drop (suc i) l) i (length-take-le i l (omega arith))

@@ -1,16 +1,8 @@
--- The turns of a loop over a list: what a test of all members, or of two lists, says from a place on: nothing is left, or the member at the place
+-- The turns of a loop over a list: what a test of all members, of some, or of two lists, says from a place on: nothing is left, or the member at the place
 -- decides, or those after it do. Assumes nothing.
-use Prim.Native.Nat.{ℕ, _+_, _-_, _≤_, _<_}
-use mathlib.Core.Path.{_≡_, ap, ap₂, _∙_}
-use mathlib.Core.Bool.{Bool, true, false, _&&_}
-use mathlib.Core.List.{List}
-use native.Mathlib.Omega.{arith}
-use native.Mathlib.Numerals.{add-one}
-use lib.Dec.{eqb}
-use lib.ListN.{length, getD, take, drop, length-drop, drop-of-length-le}
-use lib.Seq.{drop-cons, take-all}
-use borrow.Author.Tests.{eq-eqb, ne-eqb}
-use Rattle.meaning.specs.Lists.{allOf, same}
+use Rattle.meaning.proofs.Prelude.{ℕ, _+_, _≤_, _-_, _<_, _≡_, ap, _∙_, ap₂, Bool, true, false, _&&_, _||_, List, eqb, length, getD, take, drop}
+use Rattle.meaning.proofs.Prelude.{length-drop, drop-of-length-le, drop-cons, take-all, add-one, arith, ne-eqb, eq-eqb}
+use Rattle.meaning.specs.Lists.{anyOf, allOf, same}
 use Rattle.meaning.proofs.Lists.{T-false, not-intro, same-eq}
 
 -- the part from a place to the end
@@ -31,6 +23,20 @@ module _ (f : ℕ → Bool) (l : List ℕ) (i : ℕ) where
 
     pub all-next : f (getD l i 0) ≡ true → allOf f (drop i l) ≡ allOf f (drop (i + 1) l)
     all-next e = all-step ∙ ap (λ (b : Bool). b && allOf f (drop (i + 1) l)) e
+
+  -- some byte from a place on
+  pub any-end : length l ≤ i → anyOf f (drop i l) ≡ false
+  any-end h = ap (anyOf f) (drop-of-length-le l h)
+
+  module _ (h : i < length l) where
+    any-step : anyOf f (drop i l) ≡ (f (getD l i 0) || anyOf f (drop (i + 1) l))
+    any-step = rw (add-one i) (ap (anyOf f) (drop-cons l i 0 h))
+
+    pub any-here : f (getD l i 0) ≡ true → anyOf f (drop i l) ≡ true
+    any-here e = any-step ∙ ap (λ (b : Bool). b || anyOf f (drop (i + 1) l)) e
+
+    pub any-next : f (getD l i 0) ≡ false → anyOf f (drop i l) ≡ anyOf f (drop (i + 1) l)
+    any-next e = any-step ∙ ap (λ (b : Bool). b || anyOf f (drop (i + 1) l)) e
 
 -- two lists from a place on
 pub same-lengths : (a b : List ℕ) → (length a ≡ length b → ⊥) → same a b ≡ false

@@ -1,16 +1,10 @@
 -- Rising lists of numbers, putting a number into one, finding its place in one; and the pigeonhole law. Assumes nothing.
-use Prim.Native.Nat.{ℕ, zero, suc, _≤_, _<_, zero-le, suc-le-suc}
-use mathlib.Core.Path.{_≡_, refl, sym, ap, ap₂, subst, _∙_}
-use mathlib.Core.Logic.{_≢_, _⊎_, inl, inr, ⊎-elim}
-use mathlib.Core.Bool.{Bool, true, false, cond}
-use mathlib.Core.List.{List, [], _∷_, List·Memᴰ, List·Memᴰ·head, List·Memᴰ·tail, List·Memᴰ·cases-cons, List·Memᴰ·not-nil, Memᴰ·cast}
-use native.Mathlib.Nat.{zero-lt-suc, not-suc-le-zero, le-of-suc-le-suc, le-step, lt-suc-self, le-of-eq, le-of-lt, le-antisymm, ne-of-lt, lt-of-lt-of-le}
-use native.Mathlib.Omega.{arith}
-use lib.Dec.{eqb, ltb}
-use borrow.Author.Tests.{ltb-true, ltb-false, eqb-true, eqb-false}
-use lib.ListN.{length, getD}
-use Rattle.meaning.specs.Lists.{Rising}
-use Rattle.meaning.specs.States.{insertRising, insertAll, indexOf}
+use Rattle.meaning.proofs.Prelude.{ℕ, _≤_, _<_, zero, suc, zero-le, suc-le-suc, _≡_, refl, sym, ap, _∙_, subst, ap₂, _≢_, ⊎-elim, _⊎_, inl}
+use Rattle.meaning.proofs.Prelude.{inr, cond, Bool, true, false, List, [], _∷_, List·Memᴰ, List·Memᴰ·head, List·Memᴰ·tail, Memᴰ·cast}
+use Rattle.meaning.proofs.Prelude.{List·Memᴰ·not-nil, List·Memᴰ·cases-cons, ltb, eqb, length, getD, not-suc-le-zero, le-of-suc-le-suc}
+use Rattle.meaning.proofs.Prelude.{lt-of-lt-of-le, lt-suc-self, le-step, zero-lt-suc, le-of-eq, le-of-lt, le-antisymm, ne-of-lt, arith}
+use Rattle.meaning.proofs.Prelude.{eqb-true, eqb-false, ltb-true, ltb-false}
+use Rattle.meaning.proofs.Definitions.{Rising, insertRising, insertAll, indexOf}
 use Rattle.meaning.proofs.Lists.{trichotomy, mem-getD, mem-place}
 
 -- a list without one of its members

@@ -1,13 +1,9 @@
 -- Sets of types as numbers: what they hold, how large they are, and that they are equal if they hold the same. Nothing above this file looks
 -- inside `has` and `setOf`. Assumes nothing.
-use Prim.Native.Nat.{ℕ, zero, suc, _+_, _*_, _/_, _%_, _^_, _<_, suc-le-suc}
-use mathlib.Core.Path.{_≡_, refl, sym, ap, subst, _∙_}
-use mathlib.Core.Bool.{Bool, true, false, _&&_}
-use native.Mathlib.Nat.{pow-zero, pow-succ', zero-lt-suc, lt-of-lt-of-le}
-use native.Mathlib.Omega.{arith}
-use lib.Dec.{T, ltb, leb·suc-zero, leb·suc-suc}
+use Rattle.meaning.proofs.Prelude.{ℕ, _+_, _<_, zero, suc, _^_, _*_, _/_, _%_, suc-le-suc, _≡_, refl, sym, ap, _∙_, subst, Bool, true, false}
+use Rattle.meaning.proofs.Prelude.{_&&_, ltb, T, leb·suc-zero, leb·suc-suc, lt-of-lt-of-le, zero-lt-suc, pow-zero, pow-succ', arith, ne-eqb}
+use Rattle.meaning.proofs.Prelude.{eq-eqb, lt-ltb, eqb-true, eqb-false}
 use lib.Pow.{pow-mono}
-use borrow.Author.Tests.{eqb-true, eqb-false, eq-eqb, ne-eqb, lt-ltb}
 use Rattle.meaning.specs.Types.{has, bit, setOf}
 
 -- the set with no type

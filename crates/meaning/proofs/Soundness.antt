@@ -1,18 +1,12 @@
 -- Soundness: what is derivable lies, by its terms' states, in every closed set of domain atoms; so a query that is not OPEN in one closed
 -- set has no derivable ground instance that meets its conditions. Assumes nothing.
-use Prim.Native.Nat.{ℕ, suc, _<_, suc-le-suc}
-use mathlib.Core.Path.{_≡_, refl, sym, ap, ap₂, subst, _∙_}
-use mathlib.Core.Logic.{_↔_}
-use mathlib.Core.List.{List, [], _∷_, List·Memᴰ}
-use native.Mathlib.Nat.{zero-lt-suc}
-use lib.Dec.{T}
-use lib.ListN.{length, getD}
-use Rattle.meaning.specs.Lists.{All, table}
-use Rattle.meaning.specs.Syntax.{Term, Terms, var, app, end, _▸_, termCount, Tree, Trees, treeCount, Production, Atom, Clause, Condition, isOf, notOf, free, Query}
-use Rattle.meaning.specs.Legal.{Declared, WellTerm, WellTerms, WellAtom, WellClause, WellQuery}
-use Rattle.meaning.specs.Types.{has, allowed, IsGround, AreGround}
-use Rattle.meaning.specs.Ground.{GroundSet, ground, grounds, GroundIn, IsSubstitution, GroundClosed, Derivable, GroundMeets, GroundMeetsAll, NoneDerivable}
-use Rattle.meaning.specs.Clauses.{AtomSet, IsValuation, termState, termStates, InstanceIn, Closed, meets, meetsAll, Open}
+use Rattle.meaning.proofs.Prelude.{ℕ, _<_, suc, suc-le-suc, _≡_, refl, sym, ap, _∙_, subst, ap₂, _↔_, List, [], _∷_, List·Memᴰ, T, length}
+use Rattle.meaning.proofs.Prelude.{getD, zero-lt-suc}
+use Rattle.meaning.proofs.Definitions.{All, table, Term, Terms, var, app, end, _▸_, termCount, Tree, Trees, treeCount, Production, Atom}
+use Rattle.meaning.proofs.Definitions.{Clause, Condition, isOf, notOf, free, Query, Declared, WellTerm, WellTerms, WellAtom, WellClause}
+use Rattle.meaning.proofs.Definitions.{WellQuery, has, allowed, IsGround, AreGround, GroundSet, ground, grounds, GroundIn, IsSubstitution}
+use Rattle.meaning.proofs.Definitions.{GroundClosed, Derivable, GroundMeets, GroundMeetsAll, NoneDerivable, AtomSet, IsValuation, termState}
+use Rattle.meaning.proofs.Definitions.{termStates, InstanceIn, Closed, meets, meetsAll, Open}
 use Rattle.meaning.proofs.Lists.{clash, both, both-of, not-intro, All-find, All-give, length-table, getD-table, table-mem}
 use Rattle.meaning.proofs.Setting.{eachState, Homomorphism}
 

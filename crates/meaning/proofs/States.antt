@@ -1,24 +1,14 @@
 -- The states are exactly the sets of types of the ground terms, or more than 16; and the tables go with them. What a symbol gives over a row of
 -- sets is only a name here. Assumes nothing.
-use Prim.Native.Nat.{ℕ, zero, suc, _+_, _^_, _≤_, _<_}
-use mathlib.Core.Path.{_≡_, refl, sym, ap, ap₂, subst, _∙_}
-use mathlib.Core.Logic.{_↔_, _≢_, _⊎_, inl, inr, ⊎-elim}
-use mathlib.Core.Bool.{Bool, true, false}
-use mathlib.Core.List.{List, [], _∷_, map, List·Memᴰ, List·Memᴰ·not-nil, Memᴰ·cast, Memᴰ·map, Memᴰ·of-map}
-use native.Mathlib.Nat.{not-suc-le-zero, le-of-suc-le-suc, lt-of-lt-of-le, not-le-of-lt, ne-of-lt, lt-trans, zero-add, add-zero, suc-add, add-suc}
-use native.Mathlib.Decide.{decLt}
-use native.Mathlib.Omega.{arith}
-use lib.Dec.{T}
-use lib.ListN.{length, getD, length-append, length-map, List·getD-append}
-use lib.Seq.{getD-append-add}
-use Rattle.meaning.specs.Lists.{All, same, joined, table, Rising}
-use Rattle.meaning.specs.Limits.{mostStates}
-use Rattle.meaning.specs.Syntax.{Tree, Trees, node, leaf, _▹_, treeCount, Production}
-use Rattle.meaning.specs.Legal.{Declared}
-use Rattle.meaning.specs.Cells.{cell, rowOf, start, cells}
-use Rattle.meaning.specs.Types.{has, Sym, signature, allowed, IsGround, AreGround, OfType, SameTypes, step, typesOf, typesOfs}
-use Rattle.meaning.specs.States.{setsAt, indexOf, reached, grow, saturate, determinise, cellOf, tablesFrom, tables, MoreStates}
-use Rattle.meaning.specs.Files.{statesFor}
+use Rattle.meaning.proofs.Prelude.{ℕ, _+_, _≤_, _<_, zero, suc, _^_, _≡_, refl, sym, ap, _∙_, subst, ap₂, ⊎-elim, _⊎_, inl, inr, _↔_}
+use Rattle.meaning.proofs.Prelude.{Bool, true, false, List, [], _∷_, map, List·Memᴰ, Memᴰ·cast, List·Memᴰ·not-nil, Memᴰ·map, Memᴰ·of-map, T}
+use Rattle.meaning.proofs.Prelude.{length, length-append, length-map, getD, List·getD-append, getD-append-add, not-suc-le-zero}
+use Rattle.meaning.proofs.Prelude.{le-of-suc-le-suc, zero-add, add-zero, suc-add, add-suc, lt-of-lt-of-le, not-le-of-lt, ne-of-lt, lt-trans}
+use Rattle.meaning.proofs.Prelude.{decLt, arith}
+use Rattle.meaning.proofs.Definitions.{All, same, joined, table, Rising, mostStates, Tree, Trees, node, leaf, _▹_, treeCount, Production}
+use Rattle.meaning.proofs.Definitions.{Declared, cell, rowOf, start, cells, has, Sym, signature, allowed, IsGround, AreGround, OfType}
+use Rattle.meaning.proofs.Definitions.{SameTypes, step, typesOf, typesOfs, setsAt, indexOf, reached, grow, saturate, determinise, cellOf}
+use Rattle.meaning.proofs.Definitions.{tablesFrom, tables, MoreStates, statesFor}
 use Rattle.meaning.proofs.Lists.{T-of, T-not-of, clash, same-eq, eq-same, All-map, table-mem, mem-table, mem-joined, joined-mem, mem-getD, length-table, getD-table}
 use Rattle.meaning.proofs.Setting.{InRange, eachState, Homomorphism}
 use Rattle.meaning.proofs.Cells.{length-rowOf, rowOf-range, cell-lt, row-of-cell}

@@ -1,34 +1,18 @@
 -- What 01 demands, said of a file that is accepted: its states, tables, model, verdicts and certificates. Each theorem is put together here from
 -- the general ones. Assumes nothing.
-use Prim.Native.Nat.{ℕ, suc, _+_, _≤_, _<_}
-use mathlib.Core.Path.{_≡_, refl, sym, ap, subst, _∙_}
-use mathlib.Core.Logic.{inl, inr, _↔_, _≢_}
-use mathlib.Core.Bool.{Bool, true, false}
-use mathlib.Core.List.{List, _∷_, map, List·Memᴰ}
-use native.Mathlib.Nat.{lt-irrefl, le-step}
-use native.Mathlib.Omega.{arith}
-use lib.Dec.{T}
-use lib.ListN.{length, getD, take, length-append}
-use Rattle.meaning.specs.Lists.{All, joined, Rising}
-use Rattle.meaning.specs.Syntax.{Tree, Trees, node, leaf, _▹_, treeCount, Production, Clause, Query}
-use Rattle.meaning.specs.Limits.{mostStates, stateTag, atomTag}
-use Rattle.meaning.specs.Legal.{Legal, Declared, NoneTwice, WellClause, WellQuery}
-use Rattle.meaning.specs.Types.{has, bit, IsGround, AreGround, OfType, typesOf}
-use Rattle.meaning.specs.Cells.{cell, start, cells}
-use Rattle.meaning.specs.States.{indexOf}
-use Rattle.meaning.specs.Clauses.{AtomSet, IsAtom, place, marked, Closed, Brought, stage, Open, isOpen}
+use Rattle.meaning.proofs.Prelude.{ℕ, _+_, _≤_, _<_, suc, _≡_, refl, sym, ap, _∙_, subst, _≢_, _↔_, Bool, true, false, List, _∷_}
+use Rattle.meaning.proofs.Prelude.{map, List·Memᴰ, T, length, length-append, getD, arith}
+use Rattle.meaning.proofs.Definitions.{All, joined, Rising, Tree, Trees, node, leaf, _▹_, treeCount, Production, Clause, Query, stateTag}
+use Rattle.meaning.proofs.Definitions.{atomTag, Declared, NoneTwice, WellClause, WellQuery, has, bit, IsGround, AreGround, OfType, typesOf}
+use Rattle.meaning.proofs.Definitions.{cell, start, cells, indexOf, AtomSet, IsAtom, place, marked, Closed, Brought, stage, Open, isOpen}
+use Rattle.meaning.proofs.Definitions.{NoneDerivable, Bytes, encodeField, refused, accepted, rulesOf, fileAnswer, encodeSheet, stateBytes}
+use Rattle.meaning.proofs.Definitions.{IsSheetAtom, LaidOut, Carries, InSheet, Valid, sheetAnswer, LowestViolation, symbolArities}
+use Rattle.meaning.proofs.Definitions.{predicateArities, statesOf, stepOf, interpretationOf, tablesOf, roundsOf, modelOf, atomsOf, verdictOf}
+use Rattle.meaning.proofs.Definitions.{OrderOf, Admitted}
 use Rattle.meaning.specs.Clauses as Clauses
-use Rattle.meaning.specs.Ground.{NoneDerivable}
-use Rattle.meaning.specs.Fields.{Bytes, cut, encodeField, fields}
-use Rattle.meaning.specs.Refusals.{refused, accepted}
-use Rattle.meaning.specs.Files.{rulesOf, fileAnswer}
-use Rattle.meaning.specs.Certificates.{encodeSheet, stateBytes, IsSheetAtom, LaidOut, Carries, InSheet, Valid, sheetAnswer, LowestViolation}
-use Rattle.meaning.specs.Calls.{symbolArities, predicateArities, statesOf, stepOf, interpretationOf, tablesOf, roundsOf, modelOf, atomsOf, verdictOf, OrderOf, Admitted}
 use Rattle.meaning.proofs.Lists.{All-map, All-find}
 use Rattle.meaning.proofs.Cells.{place-lt}
 use Rattle.meaning.proofs.Acceptance.{accepted-rules, legal-targets}
-use Rattle.meaning.specs.Given.{NoneRefused, Given}
-use Rattle.meaning.proofs.Answers.{refusal-range, symbolsOf, refused-exact}
 use Rattle.meaning.proofs.Setting.{InRange, Homomorphism, eachState}
 use Rattle.meaning.proofs.Types.{types-exact, declared-allowed}
 use Rattle.meaning.proofs.States as States

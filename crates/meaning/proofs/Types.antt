@@ -1,18 +1,11 @@
 -- The types of a ground term are exactly those that 01 gives it, and what the symbols of ground terms are. Above this file `step` is known only
 -- by step-lt and through typesOf, and `signature` only by listed-allowed and allowed-listed. Assumes nothing.
-use Prim.Native.Nat.{ℕ, zero, suc, _+_, _^_, _<_, suc-le-suc}
-use mathlib.Core.Path.{_≡_, sym, ap, subst, _∙_}
-use mathlib.Core.Logic.{_↔_, ⊎-elim}
-use mathlib.Core.Bool.{Bool, _&&_}
-use mathlib.Core.List.{List, [], _∷_, List·Memᴰ, List·Memᴰ·head, List·Memᴰ·tail, List·Memᴰ·cases-cons, List·Memᴰ·not-nil, Memᴰ·cast}
-use native.Mathlib.Nat.{zero-lt-suc, not-suc-le-zero, le-of-suc-le-suc, add-zero, zero-add, add-suc, suc-add}
-use lib.Dec.{T, eqb, ltb, eqb→eq, eqb-refl, lt→ltb}
-use borrow.Author.Tests.{eq-eqb}
-use lib.ListN.{length, getD}
-use Rattle.meaning.specs.Lists.{anyOf, All}
-use Rattle.meaning.specs.Syntax.{Tree, Trees, node, leaf, _▹_, Production}
-use Rattle.meaning.specs.Legal.{Declared}
-use Rattle.meaning.specs.Types.{has, Sym, numbered, signature, allowed, OfType, OfTypes, IsTypeSet, SameTypes, fits, step, typesOf, typesOfs}
+use Rattle.meaning.proofs.Prelude.{ℕ, _+_, _<_, zero, suc, _^_, suc-le-suc, _≡_, sym, ap, _∙_, subst, ⊎-elim, _↔_, Bool, _&&_, List, [], _∷_}
+use Rattle.meaning.proofs.Prelude.{List·Memᴰ, List·Memᴰ·head, List·Memᴰ·tail, Memᴰ·cast, List·Memᴰ·not-nil, List·Memᴰ·cases-cons, ltb, T, eqb}
+use Rattle.meaning.proofs.Prelude.{eqb→eq, eqb-refl, lt→ltb, length, getD, not-suc-le-zero, le-of-suc-le-suc, zero-add, add-zero, suc-add}
+use Rattle.meaning.proofs.Prelude.{add-suc, zero-lt-suc, eq-eqb}
+use Rattle.meaning.proofs.Definitions.{anyOf, All, Tree, Trees, node, leaf, _▹_, Production, Declared, has, Sym, numbered, signature, allowed}
+use Rattle.meaning.proofs.Definitions.{OfType, OfTypes, IsTypeSet, SameTypes, fits, step, typesOf, typesOfs}
 use Rattle.meaning.proofs.Lists.{T-of, bool-ext, both, both-of, any-find, any-give, All-find}
 use Rattle.meaning.proofs.Sets.{has-setOf, setOf-lt, set-same}
 

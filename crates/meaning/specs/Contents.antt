@@ -1,6 +1,6 @@
 -- What the content of each kind of field says (01, the table of kinds): a test that it is as laid out, or what is read of it.
 -- `arities` are the declared symbols' arities, `types` is the number of declared types, `preds` are the declared predicates' arities.
-use Prim.Native.Nat.{ℕ, zero, suc, _+_, _-_, _*_}
+use Prim.Native.Nat.{ℕ, zero, suc, _-_, _*_}
 use mathlib.Core.Bool.{Bool, true, false, cond, _&&_, _||_}
 use mathlib.Core.List.{List, [], _∷_}
 use mathlib.Core.Option.{Option, none, some}

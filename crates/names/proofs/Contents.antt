@@ -1,18 +1,8 @@
 -- When the content of a field is a name, a named thing and a production, by its length, its first bytes and the bytes after them.
 -- Assumes nothing.
-use Prim.Native.Nat.{ℕ, _-_, _≤_, _<_}
-use mathlib.Core.Path.{_≡_, refl, _∙_}
-use mathlib.Core.Bool.{false, _&&_, and-false}
-use mathlib.Core.List.{List, [], _∷_}
-use native.Mathlib.Omega.{arith}
-use native.Mathlib.Nat.{suc-sub-suc, sub-zero}
-use lib.Dec.{leb, ltb}
-use lib.ListN.{length, getD, drop}
-use borrow.Author.Tests.{le-leb, lt-leb, lt-ltb, le-ltb, eq-eqb, ne-eqb}
-use Rattle.meaning.specs.Lists.{allOf}
-use Rattle.meaning.specs.Limits.{mostName}
-use Rattle.meaning.specs.Contents.{nameByte, isName, isNamed, declared, isProduction}
-use Rattle.names.proofs.Bytes.{isBelow}
+use Rattle.meaning.proofs.Prelude.{ℕ, _≤_, _-_, _<_, _≡_, refl, _∙_, false, _&&_, and-false, List, [], _∷_, ltb, leb, length, getD, drop, sub-zero}
+use Rattle.meaning.proofs.Prelude.{suc-sub-suc, arith, ne-eqb, eq-eqb, le-leb, lt-leb, lt-ltb, le-ltb}
+use Rattle.meaning.proofs.Definitions.{allOf, mostName, nameByte, isName, isNamed, declared, isProduction}
 
 -- a name: its length, and then each of its bytes
 pub name-short : (s : List ℕ) → length s < 1 → isName s ≡ false
@@ -48,7 +38,7 @@ production-short types arities (x ∷ y ∷ s) h = absurd (omega arith)
 
 production-step : (types : ℕ) (arities s : List ℕ) → 2 ≤ length s
     → isProduction types arities s
-    ≡ (ltb (getD s 0 0) types && declared arities (getD s 1 0) (length s - 2) && allOf (isBelow types) (drop 2 s))
+    ≡ (ltb (getD s 0 0) types && declared arities (getD s 1 0) (length s - 2) && allOf (λ b. ltb b types) (drop 2 s))
 production-step types arities [] h = absurd (omega arith)
 production-step types arities (x ∷ []) h = absurd (omega arith)
 production-step types arities (x ∷ y ∷ s) h = rw (suc-sub-suc, suc-sub-suc, sub-zero)
@@ -67,7 +57,7 @@ module _ (types : ℕ) (arities s : List ℕ) (h : 2 ≤ length s) where
           production-step types arities s h
           ∙ rw (lt-ltb (getD s 0 0) types, lt-ltb (getD s 1 0) (length arities), ne-eqb (getD arities (getD s 1 0) 0) (length s - 2))
 
-      pub production-arguments : getD arities (getD s 1 0) 0 ≡ length s - 2 → isProduction types arities s ≡ allOf (isBelow types) (drop 2 s)
+      pub production-arguments : getD arities (getD s 1 0) 0 ≡ length s - 2 → isProduction types arities s ≡ allOf (λ b. ltb b types) (drop 2 s)
       production-arguments e =
           production-step types arities s h
           ∙ rw (lt-ltb (getD s 0 0) types, lt-ltb (getD s 1 0) (length arities), eq-eqb (getD arities (getD s 1 0) 0) (length s - 2))

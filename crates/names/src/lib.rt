@@ -8,7 +8,7 @@ ghost use Rattle.meaning.specs.Contents.{nameByte, isName, isNamed, isProductio
 fn name_byte(b: u8) -> bool
     ensures { λ r. ⌜ r ≡ nameByte b ⌝ }
 {
-    (97 <= b) & (b <= 122) | (48 <= b) & (b <= 57) | (b == 91) | (b == 93) | (b == 95)
+    (b'a' <= b) & (b <= b'z') | (b'0' <= b) & (b <= b'9') | (b == b'[') | (b == b']') | (b == b'_')
 }
 
 // A name: 1 to 8 of these bytes.
@@ -18,7 +18,7 @@ pub fn is_name(s: &[u8]) -> bool
     if s.len() < 1 {
         return false;
     }
-    if 8 < s.len() {
+    if meaning::MOST_NAME < s.len() {
         return false;
     }
     let mut i = 0;
@@ -44,25 +44,11 @@ pub fn is_named(s: &[u8], most: u8) -> bool
     is_name(&s[1..])
 }
 
-// Whether all bytes are below a number.
-fn below(s: &[u8], types: u8) -> bool
-    ensures { λ r. ⌜ r ≡ allOf (λ t. ltb t types) (now (s .entry)) ⌝ }
-{
-    let mut i = 0;
-    while i < s.len() {
-        if types <= s[i] {
-            return false;
-        }
-        i += 1;
-    }
-    true
-}
-
 // A production: a declared type, a declared symbol, and as many declared types as its arity.
 pub fn is_production(s: &[u8], types: u8, arities: &[u8]) -> bool
     ensures { λ r. ⌜ r ≡ isProduction types (now (arities .entry)) (now (s .entry)) ⌝ }
 {
-    if s.len() < 2 {
+    if s.len() < meaning::ARGUMENTS {
         return false;
     }
     if types <= s[0] {
@@ -72,25 +58,8 @@ pub fn is_production(s: &[u8], types: u8, arities: &[u8]) -> bool
     if arities.len() <= f {
         return false;
     }
-    if arities[f] as usize != s.len() - 2 {
+    if arities[f] as usize != s.len() - meaning::ARGUMENTS {
         return false;
     }
-    below(&s[2..], types)
-}
-
-// Whether two slices hold the same bytes.
-pub fn same(a: &[u8], b: &[u8]) -> bool
-    ensures { λ r. ⌜ r ≡ same (now (a .entry)) (now (b .entry)) ⌝ }
-{
-    if a.len() != b.len() {
-        return false;
-    }
-    let mut i = 0;
-    while i < a.len() {
-        if a[i] != b[i] {
-            return false;
-        }
-        i += 1;
-    }
-    true
+    bytes::all_below(&s[meaning::ARGUMENTS..], bytes::wide(types))
 }

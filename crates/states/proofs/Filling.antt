@@ -1,15 +1,7 @@
 -- The sets that fill a buffer of 6144 places: that they fit, that they stand at its front, and what is made of them. Assumes nothing.
-use Prim.Native.Nat.{ℕ, _≤_}
-use mathlib.Core.Path.{_≡_, sym, ap, _∙_}
-use mathlib.Core.List.{List, _++_}
-use native.Mathlib.Omega.{arith}
-use lib.ListN.{length, take, drop, replicate, length-append, length-replicate}
-use lib.Seq.{take-at}
-use Rattle.meaning.specs.Lists.{All}
-use Rattle.meaning.specs.Syntax.{Production}
-use Rattle.meaning.specs.Cells.{cells}
-use Rattle.meaning.specs.Types.{step, signature}
-use Rattle.meaning.specs.States.{insertAll, grow, tables}
+use Rattle.meaning.proofs.Prelude.{ℕ, _≤_, _≡_, sym, ap, _∙_, List, _++_, length, length-append, take, drop, replicate, length-replicate, take-at}
+use Rattle.meaning.proofs.Prelude.{arith}
+use Rattle.meaning.proofs.Definitions.{All, Production, cells, step, signature, insertAll, grow, tables}
 use Rattle.meaning.proofs.Lists.{All-map}
 use Rattle.automaton.specs.Sets.{givenSets}
 use Rattle.automaton.specs.Marking.{Fillable}

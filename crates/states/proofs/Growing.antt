@@ -1,19 +1,7 @@
 -- Turns of determinisation: what one adds, when it comes to rest, and that the states found so far never get fewer. Assumes nothing.
-use Prim.Native.Nat.{ℕ, zero, suc, _+_, _≤_, _<_}
-use mathlib.Core.Path.{_≡_, refl, sym, ap, subst, _∙_}
-use mathlib.Core.Logic.{⊎-elim}
-use mathlib.Core.Bool.{Bool, true, false, not}
-use mathlib.Core.List.{List, [], _∷_, map}
-use native.Mathlib.Nat.{le-trans, le-of-lt}
-use native.Mathlib.Numerals.{add-one}
-use native.Mathlib.Omega.{arith}
-use lib.Dec.{T}
-use lib.ListN.{length, getD, drop}
-use lib.Seq.{drop-cons}
-use Rattle.meaning.specs.Lists.{same, joined}
-use Rattle.meaning.specs.Limits.{mostStates}
-use Rattle.meaning.specs.Types.{Sym}
-use Rattle.meaning.specs.States.{insertRising, insertAll, reached, grow, saturate, determinise}
+use Rattle.meaning.proofs.Prelude.{ℕ, _+_, _≤_, _<_, zero, suc, _≡_, refl, sym, ap, _∙_, subst, ⊎-elim, Bool, true, false, not, List, [], _∷_, map, T}
+use Rattle.meaning.proofs.Prelude.{length, getD, drop, drop-cons, le-trans, le-of-lt, add-one, arith}
+use Rattle.meaning.proofs.Definitions.{same, joined, mostStates, Sym, insertRising, insertAll, reached, grow, saturate, determinise}
 use Rattle.meaning.proofs.Lists.{clash, same-eq, eq-same}
 use Rattle.meaning.proofs.Rising.{insert-longer, insertAll-longer}
 

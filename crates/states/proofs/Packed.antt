@@ -1,16 +1,9 @@
 -- At most 16 numbers in an array of 16 places: what the array holds, and what is known of an answer. Assumes nothing.
-use Prim.Native.Nat.{ℕ, suc, _+_, _-_, _≤_, _<_}
-use mathlib.Core.Path.{_≡_, refl, sym, ap, ap₂, _∙_}
-use mathlib.Core.Bool.{Bool, true, false, cond}
-use mathlib.Core.List.{List, [], _∷_, _++_, append-assoc}
-use native.Mathlib.Numerals.{add-one}
-use native.Mathlib.Omega.{arith}
-use lib.Dec.{leb, ltb}
-use lib.ListN.{length, take, drop, replicate, length-append, length-take, length-drop, length-replicate}
-use lib.Seq.{take-append-le, drop-append-le, drop-append-add, take-at}
-use borrow.Author.Tests.{le-leb, lt-leb, leb-true, leb-false, lt-ltb, le-ltb}
-use Rattle.meaning.specs.Limits.{mostStates}
-use Rattle.meaning.specs.Refusals.{refuseIf}
+use Rattle.meaning.proofs.Prelude.{ℕ, _+_, _≤_, _-_, _<_, suc, _≡_, refl, sym, ap, _∙_, ap₂, cond, Bool, true, false, List, [], _∷_, _++_}
+use Rattle.meaning.proofs.Prelude.{append-assoc, ltb, leb, length, length-append, length-take, take, drop, replicate, length-replicate, length-drop}
+use Rattle.meaning.proofs.Prelude.{take-at, take-append-le, drop-append-le, drop-append-add, add-one, arith, le-leb, lt-leb, lt-ltb, le-ltb, leb-true}
+use Rattle.meaning.proofs.Prelude.{leb-false}
+use Rattle.meaning.proofs.Definitions.{mostStates, refuseIf}
 use Rattle.states.specs.Packed.{putAt, paddedStates, Holds, packed, overfull, countOf, countAnswer}
 use Rattle.states.specs.declared.Count.the-variants.{Known, TooMany}
 use Rattle.states.specs.declared.States.{States}

@@ -1,15 +1,8 @@
 -- Looking for the first member that passes a test, and putting a number at its place in a rising list. Assumes nothing.
-use Prim.Native.Nat.{ℕ, suc, _+_, _-_, _≤_, _<_, zero-le, suc-le-suc}
-use mathlib.Core.Path.{_≡_, refl, sym}
-use mathlib.Core.Bool.{Bool, true, false, cond}
-use mathlib.Core.List.{List, [], _∷_, _++_}
-use native.Mathlib.Nat.{sub-self, le-of-eq, le-of-suc-le-suc, not-suc-le-zero, zero-lt-suc}
-use native.Mathlib.Numerals.{add-one}
-use native.Mathlib.Omega.{arith}
-use lib.Dec.{leb, eqb}
-use lib.ListN.{length, getD, take, drop, set}
-use lib.Seq.{drop-cons, drop-length, append-snoc, set-split, take-suc-set, drop-set-lt}
-use borrow.Author.Tests.{leb-true, leb-false, le-ltb, lt-ltb, eq-eqb, ne-eqb}
+use Rattle.meaning.proofs.Prelude.{ℕ, _+_, _≤_, _-_, _<_, suc, zero-le, suc-le-suc, _≡_, refl, sym, cond, Bool, true, false, List, [], _∷_, _++_, leb}
+use Rattle.meaning.proofs.Prelude.{eqb, length, getD, take, drop, set, drop-cons, drop-set-lt, append-snoc, drop-length, take-suc-set, set-split}
+use Rattle.meaning.proofs.Prelude.{not-suc-le-zero, le-of-suc-le-suc, zero-lt-suc, le-of-eq, sub-self, add-one, arith, ne-eqb, eq-eqb, lt-ltb, le-ltb}
+use Rattle.meaning.proofs.Prelude.{leb-true, leb-false}
 use Rattle.meaning.specs.States.{insertRising, indexOf}
 use Rattle.states.specs.Packed.{placeFor, putAt}
 

@@ -1,12 +1,6 @@
 -- A number put into an array of at most 16 rising numbers, by its place; and several, from the last to the first. Assumes nothing.
-use Prim.Native.Nat.{ℕ, _+_, _-_, _≤_, _<_}
-use mathlib.Core.Path.{_≡_, sym, ap, ap₂, subst, _∙_}
-use mathlib.Core.List.{List, _∷_, _++_}
-use native.Mathlib.Omega.{arith}
-use lib.ListN.{length, getD, take, drop}
-use lib.Seq.{getD-take}
-use Rattle.meaning.specs.Limits.{mostStates}
-use Rattle.meaning.specs.States.{insertRising, insertAll}
+use Rattle.meaning.proofs.Prelude.{ℕ, _+_, _≤_, _-_, _<_, _≡_, sym, ap, _∙_, subst, ap₂, List, _∷_, _++_, length, getD, take, drop, getD-take, arith}
+use Rattle.meaning.proofs.Definitions.{mostStates, insertRising, insertAll}
 use Rattle.states.specs.Packed.{placeFor, putAt, paddedStates, Holds, packed, overfull}
 use Rattle.states.specs.declared.Count.the-variants.{Known, TooMany}
 use Rattle.states.specs.declared.States.{States}

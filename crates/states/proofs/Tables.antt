@@ -1,16 +1,8 @@
 -- The tables: the sets that symbols give over all rows of the states, how many they are, and their numbers among the states. Assumes nothing.
-use Prim.Native.Nat.{ℕ, zero, suc, _+_, _*_, _^_, _≤_, _<_}
-use mathlib.Core.Path.{_≡_, refl, ap, ap₂, _∙_}
-use mathlib.Core.List.{List, [], _∷_, _++_, map, map-append}
-use native.Mathlib.Nat.{le-trans, zero-lt-suc, pow-le-pow-left, pow-le-pow-right}
-use native.Mathlib.Numerals.{add-one}
-use native.Mathlib.Omega.{arith}
-use lib.ListN.{length, getD, take, drop, set, length-append, length-map}
-use lib.Seq.{drop-cons, take-suc, set-at, append-snoc, length-take-le}
-use Rattle.meaning.specs.Lists.{All, joined, table}
-use Rattle.meaning.specs.Cells.{cells, rowOf}
-use Rattle.meaning.specs.Types.{numbered}
-use Rattle.meaning.specs.States.{indexOf, setsAt, reached, cellOf, tablesFrom, tables}
+use Rattle.meaning.proofs.Prelude.{ℕ, _+_, _≤_, _<_, zero, suc, _^_, _*_, _≡_, refl, ap, _∙_, ap₂, List, [], _∷_, map, _++_, map-append, length}
+use Rattle.meaning.proofs.Prelude.{length-append, length-map, getD, take, drop, set, length-take-le, drop-cons, take-suc, append-snoc, set-at}
+use Rattle.meaning.proofs.Prelude.{le-trans, zero-lt-suc, pow-le-pow-left, pow-le-pow-right, add-one, arith}
+use Rattle.meaning.proofs.Definitions.{All, joined, table, cells, rowOf, numbered, indexOf, setsAt, reached, cellOf, tablesFrom, tables}
 use Rattle.meaning.proofs.Lists.{length-table}
 use Rattle.meaning.proofs.Types.{symbolOf}
 use Rattle.states.specs.Packed.{indices}

@@ -1,14 +1,6 @@
 -- The answer of a turn: it is at rest, it has met a 17th set, or it goes on with more sets. Assumes nothing.
-use Prim.Native.Nat.{ℕ, _≤_, _<_}
-use mathlib.Core.Path.{_≡_, refl, sym, ap, _∙_}
-use mathlib.Core.List.{List, []}
-use native.Mathlib.Omega.{arith}
-use lib.ListN.{length, take, replicate}
-use Rattle.meaning.specs.Limits.{mostStates}
-use Rattle.meaning.specs.Syntax.{Production}
-use Rattle.meaning.specs.Types.{Sym, step, signature}
-use Rattle.meaning.specs.States.{grow}
-use Rattle.meaning.specs.Files.{statesFor}
+use Rattle.meaning.proofs.Prelude.{ℕ, _≤_, _<_, _≡_, refl, sym, ap, _∙_, List, [], length, take, replicate, arith}
+use Rattle.meaning.proofs.Definitions.{mostStates, Production, Sym, step, signature, grow, statesFor}
 use Rattle.states.specs.Packed.{paddedStates, Holds, packed}
 use Rattle.states.specs.declared.Count.the-variants.{Known, TooMany}
 use Rattle.states.specs.declared.States.{States}

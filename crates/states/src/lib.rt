@@ -17,7 +17,7 @@ ghost use Rattle.states.specs.Asked.{Limited, productionsAt};
 ghost use Rattle.states.specs.Packed.{placeFor, putAt, Holds, packed, overfull, countOf, countAnswer, indices};
 
 // The most states.
-const MOST: usize = 16;
+const MOST: usize = meaning::MOST_STATES;
 
 // Room for the sets of 24 symbols of arity 2 over them.
 const CELLS: usize = 6144;
@@ -88,7 +88,7 @@ fn too_many() -> States
 }
 
 // s put into the first n, once; they rise.
-fn put(sets: [u16; MOST], n: usize, s: TypeSet) -> States
+fn put_set(sets: [u16; MOST], n: usize, s: TypeSet) -> States
     requires { ⌜ Holds sets n ⌝ }
     ensures { λ r. ⌜ r ≡ packed (insertRising (s .bits) (take n sets)) ⌝ }
 {
@@ -122,7 +122,7 @@ fn put_all(sets: [u16; MOST], n: usize, new: &[u16]) -> States
     let mut i = new.len();
     while 0 < i {
         i -= 1;
-        let more = put(known, count, TypeSet { bits: new[i] });
+        let more = put_set(known, count, TypeSet { bits: new[i] });
         let found = more.count;
         match found {
             Count::Known(k) => {

@@ -1,16 +1,9 @@
 -- Numbers in decimal: the digits of a number below ten and of another; what they are worth is the number; each is one of the bytes 48 to 57,
 -- the first is 48 only of 0; how many there are at most; and the last digits of a number, of which its own are as many as it has.
 -- Assumes nothing.
-use Prim.Native.Nat.{ℕ, zero, suc, _+_, _*_, _-_, _/_, _%_, _^_, _≤_, _<_}
-use mathlib.Core.Path.{_≡_, refl, sym, ap, _∙_}
-use mathlib.Core.Logic.{_⊎_, inl, inr, ⊎-elim}
-use mathlib.Core.List.{List, [], _∷_, _++_, List·Memᴰ, List·Memᴰ·append-cases, List·Memᴰ·eq-of-singleton}
-use native.Mathlib.Nat.{zero-lt-suc, pow-suc, div-lt-iff-lt-mul}
-use native.Mathlib.Numerals.{add-one}
-use native.Mathlib.Decide.{decLt}
-use native.Mathlib.Omega.{arith}
-use lib.ListN.{length, getD, length-append, List·getD-append}
-use borrow.Author.Tests.{lt-ltb, le-ltb}
+use Rattle.meaning.proofs.Prelude.{ℕ, _+_, _≤_, _-_, _<_, zero, suc, _^_, _*_, _/_, _%_, _≡_, refl, sym, ap, _∙_, ⊎-elim, _⊎_, inl, inr, List, []}
+use Rattle.meaning.proofs.Prelude.{_∷_, _++_, List·Memᴰ, List·Memᴰ·eq-of-singleton, List·Memᴰ·append-cases, length, length-append, getD}
+use Rattle.meaning.proofs.Prelude.{List·getD-append, zero-lt-suc, pow-suc, div-lt-iff-lt-mul, add-one, decLt, arith, lt-ltb, le-ltb}
 use Rattle.text.specs.Decimal.{digit, digitsIn, decimal, valueAfter, value}
 
 -- some numbers

@@ -1,4 +1,2 @@
 pub mod Decimal
-pub mod Pasted
-pub mod Putting
 pub mod Turns

@@ -1,24 +1,10 @@
--- A turn of the loop that puts bytes one after the other, and of the loop that puts digits from the last to the first. Assumes nothing.
-use Prim.Native.Nat.{ℕ, suc, _+_, _-_, _/_, _%_, _≤_, _<_}
-use mathlib.Core.Path.{_≡_, sym, ap, _∙_}
-use mathlib.Core.List.{List}
-use native.Mathlib.Numerals.{add-one}
-use native.Mathlib.Omega.{arith}
-use lib.ListN.{length, getD, set, take}
-use lib.Seq.{length-take-le, take-suc}
+-- A turn of the loop that puts digits from the last to the first. Assumes nothing.
+use Rattle.meaning.proofs.Prelude.{ℕ, _+_, _≤_, _-_, _<_, suc, _/_, _%_, _≡_, sym, ap, _∙_, List, length, set}
+use Rattle.meaning.proofs.Prelude.{arith}
 use Rattle.text.specs.Decimal.{digit, decimal}
-use Rattle.text.specs.Pasted.{pasted}
+use Rattle.bytes.specs.Pasted.{pasted}
 use Rattle.text.proofs.Decimal.{lastDigits, length-last, last-all}
-use Rattle.text.proofs.Pasted.{pasted-nil, pasted-more, pasted-last}
-
--- the next byte stored is one byte more pasted
-pub bytes-next : (out : List ℕ) (at : ℕ) (bytes : List ℕ) (i : ℕ) → at + length bytes ≤ length out → i < length bytes
-    → set (pasted out at (take i bytes)) (at + i) (getD bytes i 0) ≡ pasted out at (take (i + 1) bytes)
-bytes-next out at bytes i fits more =
-    let e : length (take i bytes) ≡ i = length-take-le i bytes (omega arith) in
-    rw (add-one i, take-suc bytes i 0)
-    (ap (λ (k : ℕ). set (pasted out at (take i bytes)) (at + k) (getD bytes i 0)) (sym e)
-    ∙ pasted-more out at (take i bytes) (getD bytes i 0) (omega arith))
+use Rattle.bytes.proofs.Pasted.{pasted-nil, pasted-last}
 
 -- the last digit stored, the digits before it are to be pasted
 digits-step : (out : List ℕ) (at k n : ℕ) → at + k < length out

@@ -1,26 +1,15 @@
 -- Bytes that stand in a listing at a place, and a listing that is the pieces one after the other. Assumes nothing.
-use Prim.Native.Nat.{ℕ, _+_, _-_, _≤_, _<_}
-use mathlib.Core.Path.{_≡_, refl, sym, ap, subst, _∙_}
-use mathlib.Core.Logic.{_≢_}
-use mathlib.Core.Bool.{Bool, true, false, not, _&&_}
-use mathlib.Core.List.{List, _++_}
-use native.Mathlib.Nat.{zero-add}
-use native.Mathlib.Omega.{arith}
-use lib.Dec.{T, eqb, leb, leb→le}
-use lib.ListN.{length, take, drop}
-use lib.Seq.{take-add, take-all}
-use borrow.Author.Tests.{lt-leb, le-leb, eqb-true, eqb-false}
-use Rattle.meaning.specs.Lists.{same, joined, table}
-use Rattle.meaning.specs.Refusals.{Answer, accepted, andThen, refuseIf}
-use Rattle.meaning.specs.Files.{fileAnswer}
-use Rattle.meaning.specs.Calls.{Buffers, longEnough, analysisAnswer, analysed}
+use Rattle.meaning.proofs.Prelude.{ℕ, _+_, _≤_, _-_, _<_, _≡_, refl, sym, ap, _∙_, subst, _≢_, Bool, true, false, not, _&&_, List, _++_, T, leb}
+use Rattle.meaning.proofs.Prelude.{leb→le, eqb, length, take, drop, take-all, take-add, zero-add, arith, le-leb, lt-leb, eqb-true, eqb-false}
+use Rattle.meaning.proofs.Definitions.{same, joined, table, Answer, accepted, andThen, refuseIf, fileAnswer, Buffers, longEnough, analysisAnswer}
+use Rattle.meaning.proofs.Definitions.{analysed}
 use Rattle.meaning.proofs.Lists.{both, T-of, same-eq}
 use Rattle.meaning.proofs.Answers.{then-next, then-first}
-use Rattle.text.specs.Pasted.{Put}
-use Rattle.lines.specs.Lines.{refusedLine, refusalText}
-use Rattle.lines.specs.Listing.{listing, pieces, piece}
-use Rattle.lines.proofs.Pieces.{listing-pieces, pieces-next, listing-refused}
-use Rattle.accept.specs.Accepted.{answered}
+use Rattle.bytes.specs.Pasted.{Put}
+use Rattle.listing_text.specs.Lines.{refusedLine, refusalText}
+use Rattle.listing_text.specs.Listing.{listing, pieces, piece}
+use Rattle.listing_text.proofs.Pieces.{listing-pieces, pieces-next, listing-refused}
+use Rattle.acceptance.specs.Accepted.{answered}
 use Rattle.listing_answer.proofs.Texts.{text-is, answer-is, line-text}
 use Rattle.analysis.specs.Given.{given}
 use Rattle.analysis.specs.declared.Analysis.{Analysis}

@@ -1,8 +1,8 @@
-// Plays the rule files of data/, each with what stands beside it, and compares: of the folders base, more and full the listing, of sets and pass the answer
-// to a sheet and the tables, and of made the sheet that is written.
+// Plays the rule files of data/, each with what stands beside it, and compares: of the folders base and full the listing, of pass the answer to a sheet
+// and the tables, and of made the sheet that is written.
 // Prints a line for each difference, and the counts of each folder.
+use declarations::Known;
 use libc::STDOUT_FILENO;
-use refusals::Known;
 ghost use Prim.Native.Nat.{_+_, _*_, _≤_, _<_, _-_};
 ghost use mathlib.Core.Path.{_≡_};
 ghost use mathlib.Core.Bool.{true, not, _&&_};
@@ -11,8 +11,8 @@ ghost use lib.ListN.{length, getD};
 ghost use Rattle.meaning.specs.Lists.{same};
 ghost use Rattle.meaning.specs.Fields.{word};
 ghost use Rattle.meaning.specs.Calls.{roundsOf, atomsOf};
-ghost use Rattle.refusals.specs.Known.{Knows, fieldsRead};
-ghost use Rattle.lines.specs.Listing.{listing, Results};
+ghost use Rattle.declarations.specs.Known.{Knows, fieldsRead};
+ghost use Rattle.listing_text.specs.Listing.{listing, Results};
 ghost use Rattle.analysis.specs.Given.{Filled};
 ghost use Rattle.vectors.specs.Expected.{standsAt, IsSheet};
 ghost use Rattle.vectors.specs.Paths.{numberedPath};
@@ -33,12 +33,6 @@ pub enum Outcome {
     Missing,
     Same,
     Different,
-}
-
-fn wide(b: u8) -> usize
-    ensures { λ r. ⌜ r ≡ b ⌝ }
-{
-    b as usize
 }
 
 fn print(text: &[u8]) {
@@ -63,7 +57,7 @@ fn stands_at(expected: &[u8], from: usize, bytes: &[u8]) -> bool
         return false;
     }
     let to = from + bytes.len();
-    names::same(&expected[from..to], bytes)
+    bytes::same(&expected[from..to], bytes)
 }
 
 // Whether a listing is the pieces one after the other.
@@ -81,11 +75,11 @@ fn are_pieces(
     requires { ⌜ Results (now file) (now states) (now marks) (now verdicts) × Knows known (fieldsRead (now file)) × (atoms ≡ length (atomsOf (now file))) × (rounds ≡ roundsOf (now file)) × (128 ≤ length (now out)) ⌝ }
     ensures { λ r. ⌜ (r ≡ true → now (expected .entry) ≡ listing (now (file .entry))) ⌝ }
 {
-    let count = lines::piece_count(file, states, marks, verdicts);
+    let count = listing_text::piece_count(states, marks, verdicts);
     let mut from = 0;
     let mut k = 0;
     while k < count {
-        let n = lines::put_piece(
+        let n = listing_text::put_piece(
             out,
             0,
             k,
@@ -121,12 +115,12 @@ fn are_results(
     requires { ⌜ Filled (now file) m (now states) (now marks) (now verdicts) × (atoms ≡ length (atomsOf (now file))) × (rounds ≡ roundsOf (now file)) × (128 ≤ length (now out)) ⌝ }
     ensures { λ r. ⌜ (r ≡ true → now (expected .entry) ≡ listing (now (file .entry))) ⌝ }
 {
-    let reading = rules::read(file);
+    let reading = parser::read(file);
     let known = reading.known;
     let counts = known.counts;
     let predicates = known.predicates;
-    let p = wide(counts[4]);
-    let queries = wide(counts[6]);
+    let p = bytes::wide(counts[declarations::PREDICATES]);
+    let queries = bytes::wide(counts[declarations::QUERIES]);
     let size = cells::cells_of(&predicates[..p], m);
     are_pieces(
         file,
@@ -145,7 +139,7 @@ fn are_results(
 fn is_refusal(number: usize, text: &[u8], expected: &[u8]) -> bool
     ensures { λ r. ⌜ r ≡ (not (eqb number 9) && same (now (text .entry)) (now (expected .entry))) ⌝ }
 {
-    (number != 9) & names::same(text, expected)
+    (number != 9) & bytes::same(text, expected)
 }
 
 // Whether a listing is that of a file, by its analysis in the lent buffers.
@@ -212,7 +206,7 @@ fn word_at(s: &[u8], at: usize) -> usize
     requires { ⌜ at + 2 ≤ length (now s) ⌝ }
     ensures { λ r. ⌜ (r ≡ word (getD (now (s .entry)) at 0) (getD (now (s .entry)) (at + 1) 0)) × (r < 65536) ⌝ }
 {
-    wide(s[at]) * 256 + wide(s[at + 1])
+    bytes::wide(s[at]) * 256 + bytes::wide(s[at + 1])
 }
 
 // Whether a file's tables are in a buffer, and a sheet for it is answered as expected. What is expected stands before the sheet: the answer's number, its
@@ -230,13 +224,13 @@ fn is_checked(file: &[u8], expected: &[u8], tables: &mut [u8], marks: &mut [u8])
         return false;
     }
     let answer = certificate::check(file, &expected[from..], tables, marks);
-    if answer.number != wide(expected[0]) {
+    if answer.number != bytes::wide(expected[0]) {
         return false;
     }
     if answer.place != word_at(expected, 1) {
         return false;
     }
-    names::same(&tables[..size], &expected[5..from])
+    bytes::same(&tables[..size], &expected[5..from])
 }
 
 // Whether a sheet is answered, and the tables written, as expected; if not, that is printed.
@@ -269,7 +263,7 @@ fn is_sheet(
         return false;
     }
     let n = r.bytes;
-    names::same(&sheet[..n], expected)
+    bytes::same(&sheet[..n], expected)
 }
 
 // Whether some bytes are the sheet that is written for a file; if not, that is printed.
@@ -338,7 +332,7 @@ fn play_file(rules: &[u8], beside: &[u8], way: Way) -> Outcome {
 }
 
 // The path of file k, by its three digits, which stand after a folder of four letters.
-fn put_number(path: &mut [u8], k: usize)
+fn put_digits(path: &mut [u8], k: usize)
     requires { ⌜ (8 ≤ length (now path)) × (k < 1000) ⌝ }
     ensures { λ _. ⌜ now (path .exit) ≡ numberedPath (now (path .entry)) k ⌝ }
 {
@@ -354,8 +348,8 @@ fn play(folder: &[u8], rules: &mut [u8], listing: &mut [u8], way: Way)
     let mut files: usize = 0;
     let mut differences: usize = 0;
     while files < 1000 {
-        put_number(rules, files);
-        put_number(listing, files);
+        put_digits(rules, files);
+        put_digits(listing, files);
         match play_file(rules, listing, way) {
             Outcome::Missing => {
                 print_counts(folder, files, differences);

@@ -1,9 +1,6 @@
 -- `automaton::fill` meets its contract. The loop's invariant: the productions left, marked in the buffer as it is, give what all of them give in the
 -- emptied buffer; the measure is how many are left. Assumes nothing.
-use mathlib.Core.Path.{_≡_, refl, _∙_}
-use native.Mathlib.Omega.{arith}
-use lib.ListN.{length, drop}
-use borrow.Author.Needs.{needs}
+use Rattle.meaning.proofs.Prelude.{_≡_, refl, _∙_, length, drop, arith, needs}
 use Rattle.fields.specs.Found.{contentsFrom}
 use Rattle.automaton.specs.Marking.{AreProductions}
 use Rattle.automaton.proofs.Turns.{fillable-same, length-markProduction, markFrom, never-cut, never-end, field-inside, first-long, first-well, rest-are, from-next}
@@ -23,17 +20,11 @@ abbrev μ-loop : tie.MeasureT-loop
 cells-of-requires : tie.Need-cells-of-requires Inv-loop μ-loop
 cells-of-requires c κs = let p = c .before .before .before .before .before .pre .0 .0 in (p .few, p .symbols, p .small)
 
-clear-requires : tie.Need-clear-requires Inv-loop μ-loop
-clear-requires c κs = omega (arith, c .before .before .before .before .before .before .pre .0 .0 .room, c .cells-of .ensures)
+empty-sets-requires : tie.Need-empty-sets-requires Inv-loop μ-loop
+empty-sets-requires c κs = omega (arith, c .before .before .before .before .before .before .pre .0 .0 .room, c .cells-of .ensures)
 
 loop-holds : tie.Need-loop-holds Inv-loop μ-loop
 loop-holds c = (refl, c .before .before .before .before .before .before .before .before .before .pre .1, refl)
-
-field-at-requires : tie.Need-field-at-requires Inv-loop μ-loop
-field-at-requires c κs = tt
-
-enum-known-len : tie.Need-enum-known-len Inv-loop μ-loop
-enum-known-len c = search needs
 
 content-requires : tie.Need-content-requires Inv-loop μ-loop
 content-requires c κs =
@@ -52,7 +43,7 @@ mark-production-requires c κs =
     let begun = turn .before .before .before .before in
     let start = begun .before .before .before .before .before .before .before in
     let a = start .args in (
-      fillable-same (start .pre .0 .0) (loop .inv .0 ∙ length-begun (a .states .now) (a .arities .now) (a .sets .now) (start .pre .0 .0) (begun .before .cells-of .ensures) (begun .clear .ensures)),
+      fillable-same (start .pre .0 .0) (loop .inv .0 ∙ length-begun (a .states .now) (a .arities .now) (a .sets .now) (start .pre .0 .0) (begun .before .cells-of .ensures) (begun .empty-sets .ensures)),
       first-long (a .file .now) (loop .at) (omega arith) (loop .inv .1) (told .before .before .field-at .ensures) (told .len .given .1) (c .before .content .ensures .0),
       first-well (a .file .now) (loop .at) (omega arith) (loop .inv .1) (told .before .before .field-at .ensures) (told .len .given .1) (c .before .content .ensures .0) (start .pre .0 .1),
     )
@@ -75,12 +66,6 @@ add-at-2 c =
     let a = start .args in
     omega (arith, field-inside (a .file .now) (loop .at) (omega arith) (loop .inv .1) (told .before .before .field-at .ensures) (told .len .given .1))
 
-sub-left : tie.Need-sub-left Inv-loop μ-loop
-sub-left c = omega arith
-
-loop-less : tie.Need-loop-less Inv-loop μ-loop
-loop-less c = omega arith
-
 loop-again : tie.Need-loop-again Inv-loop μ-loop
 loop-again c =
     let told = c .before .before .before .before .before .before in
@@ -94,16 +79,13 @@ loop-again c =
       from-next (a .file .now) (loop .at) (omega arith) (loop .inv .1) (told .before .before .field-at .ensures) (told .len .given .1) (c .before .before .before .before .content .ensures .0) (a .states .now) (loop .sets) marked ∙ loop .inv .2,
     )
 
-enum-told : tie.Need-enum-told Inv-loop μ-loop
-enum-told c = search needs
-
 same-length : tie.Need-same-length Inv-loop μ-loop
 same-length c =
     let loop = c .before .before .before .before .loop in
     let begun = c .before .before .before .before .before .before .before in
     let start = begun .before .before .before .before .before .before .before in
     let a = start .args in
-    loop .inv .0 ∙ length-begun (a .states .now) (a .arities .now) (a .sets .now) (start .pre .0 .0) (begun .before .cells-of .ensures) (begun .clear .ensures)
+    loop .inv .0 ∙ length-begun (a .states .now) (a .arities .now) (a .sets .now) (start .pre .0 .0) (begun .before .cells-of .ensures) (begun .empty-sets .ensures)
 
 returns : tie.Need-returns Inv-loop μ-loop
 returns c =
@@ -113,16 +95,13 @@ returns c =
     let a = start .args in
     absurd (never-cut (a .file .now) (loop .at) (omega arith) (loop .inv .1) (c .before .before .field-at .ensures) (c .enum-told .given .1))
 
-enum-told-2 : tie.Need-enum-told-2 Inv-loop μ-loop
-enum-told-2 c = search needs
-
 same-length-2 : tie.Need-same-length-2 Inv-loop μ-loop
 same-length-2 c =
     let loop = c .before .before .before .before .loop in
     let begun = c .before .before .before .before .before .before .before in
     let start = begun .before .before .before .before .before .before .before in
     let a = start .args in
-    loop .inv .0 ∙ length-begun (a .states .now) (a .arities .now) (a .sets .now) (start .pre .0 .0) (begun .before .cells-of .ensures) (begun .clear .ensures)
+    loop .inv .0 ∙ length-begun (a .states .now) (a .arities .now) (a .sets .now) (start .pre .0 .0) (begun .before .cells-of .ensures) (begun .empty-sets .ensures)
 
 returns-2 : tie.Need-returns-2 Inv-loop μ-loop
 returns-2 c =
@@ -138,7 +117,7 @@ same-length-3 c =
     let begun = c .before .before .before .before in
     let start = begun .before .before .before .before .before .before .before in
     let a = start .args in
-    loop .inv .0 ∙ length-begun (a .states .now) (a .arities .now) (a .sets .now) (start .pre .0 .0) (begun .before .cells-of .ensures) (begun .clear .ensures)
+    loop .inv .0 ∙ length-begun (a .states .now) (a .arities .now) (a .sets .now) (start .pre .0 .0) (begun .before .cells-of .ensures) (begun .empty-sets .ensures)
 
 returns-3 : tie.Need-returns-3 Inv-loop μ-loop
 returns-3 c =
@@ -146,31 +125,10 @@ returns-3 c =
     let begun = c .before .before .before .before in
     let start = begun .before .before .before .before .before .before .before in
     let a = start .args in
-    filled (a .states .now) (a .arities .now) (a .sets .now) (start .pre .0 .0) (begun .before .cells-of .ensures) (begun .clear .ensures) (a .file .now) (a .types) (a .from) (a .count) (loop .left) (loop .at) (start .pre .0 .1) (start .pre .1) (c .loop-test .left) (loop .inv .2)
+    filled (a .states .now) (a .arities .now) (a .sets .now) (start .pre .0 .0) (begun .before .cells-of .ensures) (begun .empty-sets .ensures) (a .file .now) (a .types) (a .from) (a .count) (loop .left) (loop .at) (start .pre .0 .1) (start .pre .1) (c .loop-test .left) (loop .inv .2)
 
 pub fill-spec : {M : Type 1} → statement M
 fill-spec =
-    tie.close
-    (tie.spec
-    Inv-loop
-    μ-loop
-    cells-of-requires
-    clear-requires
-    loop-holds
-    field-at-requires
-    enum-known-len
-    content-requires
-    mark-production-requires
-    add-at
-    add-at-2
-    sub-left
-    loop-less
-    loop-again
-    enum-told
-    same-length
-    returns
-    enum-told-2
-    same-length-2
-    returns-2
-    same-length-3
-    returns-3)
+    tie.close (tie.spec Inv-loop μ-loop cells-of-requires empty-sets-requires loop-holds (λ c κs. tt) (λ c. search needs) content-requires
+    mark-production-requires add-at add-at-2 (λ c. omega arith) (λ c. omega arith) loop-again (λ c. search needs) same-length returns
+    (λ c. search needs) same-length-2 returns-2 same-length-3 returns-3)

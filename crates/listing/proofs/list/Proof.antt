@@ -1,13 +1,8 @@
 -- `listing::list` meets its contract: the text of a refusal lies in the buffer, and with 0 the analysis has filled the buffers. Assumes nothing.
-use Prim.Native.Nat.{_≤_}
-use mathlib.Core.Path.{_≡_, sym, ap, _∙_}
-use native.Mathlib.Omega.{arith}
-use lib.ListN.{length}
-use lib.Seq.{length-take-le}
+use Rattle.meaning.proofs.Prelude.{_≤_, sym, length, length-take-le, arith, needs}
 use Rattle.meaning.specs.Calls.{Buffers}
 use Rattle.analysis.proofs.Done.{filled-is}
 use Rattle.listing_answer.proofs.Texts.{text-inside}
-use borrow.Author.Needs.{needs}
 use Rattle.listing.proofs.list.Statement.{statement}
 use Rattle.listing.proofs.list.Tie as tie
 

@@ -1,11 +1,6 @@
 -- `listing::print_pieces` meets its contract: there is room for a piece when it is put. Assumes nothing.
-use Prim.Native.Nat.{_-_, _≤_}
-use mathlib.Core.Path.{_≡_, refl, sym, _∙_}
-use native.Mathlib.Omega.{arith}
-use borrow.Author.Needs.{needs}
-use lib.ListN.{length}
-use lib.Seq.{length-take-le}
-use Rattle.lines.specs.Listing.{pieces}
+use Rattle.meaning.proofs.Prelude.{_≤_, _-_, _≡_, refl, sym, _∙_, length, length-take-le, arith, needs}
+use Rattle.listing_text.specs.Listing.{pieces}
 use Rattle.listing.proofs.print_pieces.Statement.{statement}
 use Rattle.listing.proofs.print_pieces.Tie as tie
 
@@ -14,12 +9,6 @@ Inv-loop file known states marks verdicts atoms rounds out₀ count at₀ k₀ o
 
 abbrev μ-loop : tie.MeasureT-loop
 μ-loop file known states marks verdicts atoms rounds out₀ count at₀ k₀ out at k = count - k
-
-piece-count-requires : tie.Need-piece-count-requires Inv-loop μ-loop
-piece-count-requires c κs = c .before .before .before .before .before .pre .0
-
-loop-holds : tie.Need-loop-holds Inv-loop μ-loop
-loop-holds c = (refl, omega arith, c .piece-count .ensures)
 
 flush-requires : tie.Need-flush-requires Inv-loop μ-loop
 flush-requires c κs = let loop = c .before .before .loop in (omega (arith, loop .inv .0, loop .inv .1), omega (arith, loop .inv .0, c .before .before .before .before .before .before .before .before .before .pre .4))
@@ -36,12 +25,6 @@ put-piece-requires c κs =
 kept : (c : tie.After-put-piece Inv-loop μ-loop) → length (c .put-piece .last .0) ≡ length (c .before .before .before .before .before .loop .out)
 kept c = search needs
 
-add-k : tie.Need-add-k Inv-loop μ-loop
-add-k c = search needs
-
-loop-less : tie.Need-loop-less Inv-loop μ-loop
-loop-less c = omega arith
-
 loop-again : tie.Need-loop-again Inv-loop μ-loop
 loop-again c =
     let loop = c .before .before .before .before .before .before .before .loop in
@@ -53,30 +36,8 @@ slice-reshare-prefix-write-all c = omega (arith, c .before .loop .inv .0, c .bef
 slice-aggregate-write-all : tie.Need-slice-aggregate-write-all Inv-loop μ-loop
 slice-aggregate-write-all c = sym (length-take-le (c .before .before .loop .at) (c .before .before .loop .out) (omega (arith, c .before .before .loop .inv .0, c .before .before .loop .inv .1)))
 
-write-all-requires : tie.Need-write-all-requires Inv-loop μ-loop
-write-all-requires c κs = tt
-
-same-length : tie.Need-same-length Inv-loop μ-loop
-same-length c = c .before .before .before .loop .inv .0
-
-returns : tie.Need-returns Inv-loop μ-loop
-returns c = tt
-
 pub print-pieces-spec : {M : Type 1} → statement M
 print-pieces-spec =
-    tie.close
-    (tie.spec
-    Inv-loop
-    μ-loop
-    piece-count-requires
-    loop-holds
-    flush-requires
-    put-piece-requires
-    add-k
-    loop-less
-    loop-again
-    slice-reshare-prefix-write-all
-    slice-aggregate-write-all
-    write-all-requires
-    same-length
-    returns)
+    tie.close (tie.spec Inv-loop μ-loop (λ c κs. (c .before .before .before .before .before .args .file .now, c .before .before .before .before .before .pre .0))
+    (λ c. (refl, omega arith, c .piece-count .ensures _ (c .before .before .before .before .before .before .pre .0))) flush-requires put-piece-requires (λ c. search needs) (λ c. omega arith) loop-again
+    slice-reshare-prefix-write-all slice-aggregate-write-all (λ c κs. tt) (λ c. c .before .before .before .loop .inv .0) (λ c. tt))

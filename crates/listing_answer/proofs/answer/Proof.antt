@@ -1,14 +1,9 @@
 -- `listing_answer::answer` meets its contract: the line that is put is that of the analysis' own answer. Assumes nothing.
-use mathlib.Core.Path.{_≡_, sym, ap, subst, _∙_}
-use mathlib.Core.List.{List}
-use Prim.Native.Nat.{ℕ}
-use native.Mathlib.Omega.{arith}
-use borrow.Author.Needs.{needs}
-use Rattle.meaning.specs.Refusals.{Answer}
+use Rattle.meaning.proofs.Prelude.{ℕ, sym, ap, _∙_, subst, List, arith, needs}
 use Rattle.meaning.specs.Calls.{Buffers}
-use Rattle.text.specs.Pasted.{Put}
-use Rattle.lines.specs.Lines.{refusalText}
-use Rattle.accept.specs.Accepted.{answered}
+use Rattle.bytes.specs.Pasted.{Put}
+use Rattle.listing_text.specs.Lines.{refusalText}
+use Rattle.acceptance.specs.Accepted.{answered}
 use Rattle.listing_answer.proofs.Texts.{answer-is, no-text, line-text, put-nothing}
 use Rattle.listing_answer.proofs.answer.Statement.{statement}
 use Rattle.listing_answer.proofs.answer.Tie as tie

@@ -1,14 +1,7 @@
 -- `names::is_name` meets its contract: by the length, and then by the invariant that the bytes from `i` on are all bytes of a name
 -- exactly if all of them are. Assumes nothing.
-use Prim.Native.Nat.{_-_}
-use mathlib.Core.Path.{_≡_, sym, _∙_}
-use mathlib.Core.Bool.{true, false}
-use native.Mathlib.Omega.{arith}
-use lib.ListN.{length, getD, drop}
-use borrow.Author.Tests.{not-true, not-false}
-use borrow.Author.Needs.{needs}
-use Rattle.meaning.specs.Lists.{allOf}
-use Rattle.meaning.specs.Contents.{nameByte}
+use Rattle.meaning.proofs.Prelude.{_-_, _≡_, sym, _∙_, true, false, length, getD, drop, arith, not-true, not-false, needs}
+use Rattle.meaning.proofs.Definitions.{allOf, nameByte}
 use Rattle.meaning.proofs.Loops.{all-end, all-fails, all-next}
 use Rattle.names.proofs.Contents.{name-short, name-long, name-all}
 use Rattle.names.proofs.is_name.Statement.{statement}
@@ -26,27 +19,12 @@ returns c = sym (name-short (c .before .before .args .s .now) (c .if1 .taken))
 returns-2 : tie.Need-returns-2 Inv-loop μ-loop
 returns-2 c = sym (name-long (c .before .before .before .args .s .now) (omega arith))
 
-loop-holds : tie.Need-loop-holds Inv-loop μ-loop
-loop-holds c = search needs
-
-shared-slice-read-name-byte : tie.Need-shared-slice-read-name-byte Inv-loop μ-loop
-shared-slice-read-name-byte c = search needs
-
-name-byte-requires : tie.Need-name-byte-requires Inv-loop μ-loop
-name-byte-requires c κs = search needs
-
 returns-3 : tie.Need-returns-3 Inv-loop μ-loop
 returns-3 c =
     let s = c .before .before .before .before .before .before .before .before .args .s .now in
     let at = c .before .before .before .before .loop in
     let here : nameByte (getD s (at .i) 0) ≡ false = sym (c .before .name-byte .ensures) ∙ not-true _ (c .if3 .taken) in
     sym (name-all s (omega arith) (omega arith) ∙ sym (at .inv) ∙ all-fails nameByte s (at .i) (omega arith) here)
-
-add-i : tie.Need-add-i Inv-loop μ-loop
-add-i c = search needs
-
-loop-less : tie.Need-loop-less Inv-loop μ-loop
-loop-less c = search needs
 
 loop-again : tie.Need-loop-again Inv-loop μ-loop
 loop-again c =
@@ -63,17 +41,5 @@ returns-4 c =
 
 pub is-name-spec : {M : Type 1} → statement M
 is-name-spec =
-    tie.close
-    (tie.spec
-    Inv-loop
-    μ-loop
-    returns
-    returns-2
-    loop-holds
-    shared-slice-read-name-byte
-    name-byte-requires
-    returns-3
-    add-i
-    loop-less
-    loop-again
-    returns-4)
+    tie.close (tie.spec Inv-loop μ-loop returns returns-2 (λ c. search needs) (λ c. search needs) (λ c κs. search needs) returns-3 (λ c. search needs)
+    (λ c. search needs) loop-again returns-4)

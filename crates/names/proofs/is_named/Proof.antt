@@ -1,7 +1,5 @@
 -- `names::is_named` meets its contract: the first byte is at most the arity given, and the part after it is a name. Assumes nothing.
-use mathlib.Core.Path.{sym, ap, _∙_}
-use native.Mathlib.Omega.{arith}
-use borrow.Author.Needs.{needs}
+use Rattle.meaning.proofs.Prelude.{sym, ap, _∙_, arith, needs}
 use Rattle.meaning.specs.Contents.{isName}
 use Rattle.meaning.proofs.Loops.{part-rest}
 use Rattle.names.proofs.Contents.{named-empty, named-wide, named-name}
@@ -13,25 +11,10 @@ returns c =
     let a = c .before .before .args in
     sym (named-empty (a .most) (a .s .now) (c .if1 .taken))
 
-shared-slice-read-if2 : tie.Need-shared-slice-read-if2
-shared-slice-read-if2 c = search needs
-
 returns-2 : tie.Need-returns-2
 returns-2 c =
     let a = c .before .before .before .before .args in
     sym (named-wide (a .most) (a .s .now) (omega arith) (omega arith))
-
-sub-is-name : tie.Need-sub-is-name
-sub-is-name c = search needs
-
-part-is-name-start : tie.Need-part-is-name-start
-part-is-name-start c = search needs
-
-part-is-name-end : tie.Need-part-is-name-end
-part-is-name-end c = search needs
-
-is-name-requires : tie.Need-is-name-requires
-is-name-requires c κs = search needs
 
 returns-3 : tie.Need-returns-3
 returns-3 c =
@@ -42,13 +25,5 @@ returns-3 c =
 
 pub is-named-spec : {M : Type 1} → statement M
 is-named-spec =
-    tie.close
-    (tie.spec
-    returns
-    shared-slice-read-if2
-    returns-2
-    sub-is-name
-    part-is-name-start
-    part-is-name-end
-    is-name-requires
+    tie.close (tie.spec returns (λ c. search needs) returns-2 (λ c. search needs) (λ c. search needs) (λ c. search needs) (λ c κs. search needs)
     returns-3)

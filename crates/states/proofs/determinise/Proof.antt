@@ -1,11 +1,7 @@
 -- `states::determinise` meets its contract. The invariant: the array holds a list from which the turns that are left lead to the states (`Underway`). The measure is
 -- how many places are left. Assumes nothing.
-use Prim.Native.Nat.{_-_}
-use native.Mathlib.Omega.{arith}
-use borrow.Author.Needs.{needs}
-use Rattle.meaning.specs.Files.{statesFor}
-use Rattle.meaning.specs.Types.{step, signature}
-use Rattle.meaning.specs.Limits.{mostStates}
+use Rattle.meaning.proofs.Prelude.{_-_, arith, needs}
+use Rattle.meaning.proofs.Definitions.{statesFor, step, signature, mostStates}
 use Rattle.states.specs.Asked.{productionsAt}
 use Rattle.states.proofs.Packed.{packed-answer}
 use Rattle.states.proofs.Turns.{Turning, turning, turning-holds, turn-over, turn-size, turn-rest, turn-grown, turn-on}
@@ -27,9 +23,6 @@ loop-holds c =
 turn-requires : tie.Need-turn-requires Inv-loop μ-loop
 turn-requires c κs = ((turning-holds (c .loop .inv), c .before .before .before .pre .0), c .before .before .before .pre .1)
 
-enum-known-found : tie.Need-enum-known-found Inv-loop μ-loop
-enum-known-found c = search needs
-
 returns : tie.Need-returns Inv-loop μ-loop
 returns c =
     let turned = c .before .before .before .before in
@@ -49,9 +42,6 @@ loop-again c =
     let turned = c .before .before .before .before .before in
     turn-on (turned .before .loop .inv) (turned .turn .ensures) (c .before .before .before .found .given .1) (λ e. omega arith)
 
-enum-told : tie.Need-enum-told Inv-loop μ-loop
-enum-told c = search needs
-
 returns-2 : tie.Need-returns-2 Inv-loop μ-loop
 returns-2 c =
     let turned = c .before .before in
@@ -60,15 +50,4 @@ returns-2 c =
 
 pub determinise-spec : {M : Type 1} → statement M
 determinise-spec =
-    tie.close
-    (tie.spec
-    Inv-loop
-    μ-loop
-    loop-holds
-    turn-requires
-    enum-known-found
-    returns
-    loop-less
-    loop-again
-    enum-told
-    returns-2)
+    tie.close (tie.spec Inv-loop μ-loop loop-holds turn-requires (λ c. search needs) returns loop-less loop-again (λ c. search needs) returns-2)

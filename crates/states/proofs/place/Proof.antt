@@ -1,11 +1,5 @@
 -- `states::place` meets its contract. The invariant: the place is looked for from `i` on. The measure is how many places are left. Assumes nothing.
-use Prim.Native.Nat.{_≤_, _+_, _-_}
-use mathlib.Core.Path.{_≡_, refl, sym, _∙_}
-use native.Mathlib.Omega.{arith}
-use lib.ListN.{length, drop}
-use lib.Dec.{leb}
-use borrow.Author.Tests.{le-leb, lt-leb}
-use borrow.Author.Needs.{needs}
+use Rattle.meaning.proofs.Prelude.{_+_, _≤_, _-_, _≡_, refl, sym, _∙_, leb, length, drop, arith, le-leb, lt-leb, needs}
 use Rattle.states.specs.Packed.{placeFor}
 use Rattle.states.proofs.Places.{first-here, first-next, first-none}
 use Rattle.states.proofs.place.Statement.{statement}
@@ -17,26 +11,11 @@ Inv-loop states s i₀ i = (i ≤ length states) × (i + placeFor (s .bits) (dro
 abbrev μ-loop : tie.MeasureT-loop
 μ-loop states s i₀ i = length states - i
 
-loop-holds : tie.Need-loop-holds Inv-loop μ-loop
-loop-holds c = search needs
-
-mul-if1 : tie.Need-mul-if1 Inv-loop μ-loop
-mul-if1 c = search needs
-
-shared-slice-read-if1 : tie.Need-shared-slice-read-if1 Inv-loop μ-loop
-shared-slice-read-if1 c = search needs
-
 returns : tie.Need-returns Inv-loop μ-loop
 returns c =
     let a = c .before .before .before .before .before .args in
     let i = c .before .before .before .before .loop .i in
     sym (first-here (leb (a .s .bits)) (placeFor (a .s .bits)) refl (λ x xs. refl) (a .states .now) i (search needs) (le-leb (a .s .bits) _ (c .if1 .taken))) ∙ c .before .before .before .before .loop .inv .1
-
-add-i : tie.Need-add-i Inv-loop μ-loop
-add-i c = search needs
-
-loop-less : tie.Need-loop-less Inv-loop μ-loop
-loop-less c = search needs
 
 loop-again : tie.Need-loop-again Inv-loop μ-loop
 loop-again c =
@@ -52,15 +31,5 @@ returns-2 c =
 
 pub place-spec : {M : Type 1} → statement M
 place-spec =
-    tie.close
-    (tie.spec
-    Inv-loop
-    μ-loop
-    loop-holds
-    mul-if1
-    shared-slice-read-if1
-    returns
-    add-i
-    loop-less
-    loop-again
-    returns-2)
+    tie.close (tie.spec Inv-loop μ-loop (λ c. search needs) (λ c. search needs) (λ c. search needs) returns (λ c. search needs) (λ c. search needs)
+    loop-again returns-2)

@@ -1,13 +1,6 @@
 -- `states::put_all` meets its contract. The invariant: the array holds the sets from place `i` on put into the first `n`. The measure is `i`. Assumes nothing.
-use Prim.Native.Nat.{ℕ, _≤_, _-_}
-use mathlib.Core.List.{[]}
-use mathlib.Core.Path.{_≡_, sym, subst}
-use native.Mathlib.Omega.{arith}
-use lib.Seq.{drop-length}
-use lib.ListN.{length, take, drop}
-use borrow.Author.Needs.{needs}
-use Rattle.meaning.specs.States.{insertAll}
-use Rattle.meaning.specs.Limits.{mostStates}
+use Rattle.meaning.proofs.Prelude.{ℕ, _≤_, _-_, _≡_, sym, subst, [], length, take, drop, drop-length, arith, needs}
+use Rattle.meaning.proofs.Definitions.{insertAll, mostStates}
 use Rattle.states.specs.Packed.{paddedStates, packed}
 use Rattle.states.proofs.Putting.{answer-packed, put-next-one, put-over}
 use Rattle.states.proofs.Packed.{length-held, holds-again, known-is}
@@ -26,13 +19,13 @@ abbrev μ-loop : tie.MeasureT-loop
 
 -- the answer with one more set put in
 put-in :
-    (c : tie.After-put Inv-loop μ-loop)
-    → c .put .result
+    (c : tie.After-put-set Inv-loop μ-loop)
+    → c .put-set .result
     ≡ packed (insertAll (drop (c .before .before .before .loop .i - 1) (c .before .before .before .before .before .args .new .now)) (take (c .before .before .before .before .before .args .n) (c .before .before .before .before .before .args .sets)))
 put-in c =
     let a = c .before .before .before .before .before .args in
     let loop = c .before .before .before .loop in
-    put-next-one (a .new .now) (take (a .n) (a .sets)) (loop .count) (loop .known) (loop .i) (omega arith) (omega arith) (loop .inv .1) (loop .inv .3) (c .put .ensures)
+    put-next-one (a .new .now) (take (a .n) (a .sets)) (loop .count) (loop .known) (loop .i) (omega arith) (omega arith) (loop .inv .1) (loop .inv .3) (c .put-set .ensures)
 
 loop-holds : tie.Need-loop-holds Inv-loop μ-loop
 loop-holds c =
@@ -41,35 +34,17 @@ loop-holds c =
     let none : drop (length (a .new .now)) (a .new .now) ≡ [] = drop-length (a .new .now) in
     (omega arith, rw none (sym (length-held pre)), pre .few, rw none (pre .padding))
 
-sub-i : tie.Need-sub-i Inv-loop μ-loop
-sub-i c = search needs
-
-mul-t11 : tie.Need-mul-t11 Inv-loop μ-loop
-mul-t11 c = search needs
-
-shared-slice-read-t13 : tie.Need-shared-slice-read-t13 Inv-loop μ-loop
-shared-slice-read-t13 c = search needs
-
-put-requires : tie.Need-put-requires Inv-loop μ-loop
-put-requires c κs =
+put-set-requires : tie.Need-put-set-requires Inv-loop μ-loop
+put-set-requires c κs =
     let a = c .before .before .before .before .args in
     let loop = c .before .before .loop in
     holds-again (loop .count) (loop .known) (insertAll (drop (loop .i) (a .new .now)) (take (a .n) (a .sets))) (loop .inv .2) (loop .inv .1) (loop .inv .3)
-
-enum-known-found : tie.Need-enum-known-found Inv-loop μ-loop
-enum-known-found c = search needs
-
-loop-less : tie.Need-loop-less Inv-loop μ-loop
-loop-less c = search needs
 
 loop-again : tie.Need-loop-again Inv-loop μ-loop
 loop-again c =
     let a = c .before .before .before .before .before .before .before .before .before .args in
     let w = known-is (insertAll (drop (c .before .before .before .before .before .before .before .loop .i - 1) (a .new .now)) (take (a .n) (a .sets))) (put-in (c .before .before .before .before)) (c .before .before .found .given .1) in
     (omega arith, w .0, omega (arith, w .0, w .1), w .2)
-
-enum-told : tie.Need-enum-told Inv-loop μ-loop
-enum-told c = search needs
 
 returns : tie.Need-returns Inv-loop μ-loop
 returns c =
@@ -89,18 +64,5 @@ returns-2 c =
 
 pub put-all-spec : {M : Type 1} → statement M
 put-all-spec =
-    tie.close
-    (tie.spec
-    Inv-loop
-    μ-loop
-    loop-holds
-    sub-i
-    mul-t11
-    shared-slice-read-t13
-    put-requires
-    enum-known-found
-    loop-less
-    loop-again
-    enum-told
-    returns
-    returns-2)
+    tie.close (tie.spec Inv-loop μ-loop loop-holds (λ c. search needs) (λ c. search needs) (λ c. search needs) put-set-requires (λ c. search needs)
+    (λ c. search needs) loop-again (λ c. search needs) returns returns-2)

@@ -1,9 +1,5 @@
 -- `states::turn` meets its contract: the buffer's front is what the symbols give, and it is put among the sets found. Assumes nothing.
-use Prim.Native.Nat.{ℕ}
-use mathlib.Core.Path.{sym, ap, _∙_}
-use native.Mathlib.Omega.{arith}
-use lib.ListN.{take}
-use borrow.Author.Needs.{needs}
+use Rattle.meaning.proofs.Prelude.{ℕ, sym, ap, _∙_, take, arith, needs}
 use Rattle.meaning.specs.Cells.{cells}
 use Rattle.states.specs.Packed.{packed}
 use Rattle.states.specs.Asked.{productionsAt}
@@ -28,12 +24,6 @@ filled c =
       counts = c .cells-of .ensures ∙ ap (λ (m : ℕ). cells m (c .before .before .before .before .before .before .before .args .arities .now)) (sym (length-held (c .before .before .before .before .before .before .before .pre .0 .0)));
     }
 
-slice-aggregate-fill : tie.Need-slice-aggregate-fill
-slice-aggregate-fill c = search needs
-
-array-share-prefix-states : tie.Need-array-share-prefix-states
-array-share-prefix-states c = search needs
-
 slice-aggregate-fill-2 : tie.Need-slice-aggregate-fill-2
 slice-aggregate-fill-2 c = sym (length-held (c .before .before .before .before .pre .0 .0))
 
@@ -49,28 +39,10 @@ cells-of-requires c κs =
     let pre = c .before .before .before .before .before .before .pre in
     (pre .0 .0 .few, omega (arith, pre .0 .1 .symbols), small (a .arities .now) (a .types) (pre .0 .1))
 
-array-share-prefix-sets : tie.Need-array-share-prefix-sets
-array-share-prefix-sets c = front-fits (filled c)
-
-slice-aggregate-put-all : tie.Need-slice-aggregate-put-all
-slice-aggregate-put-all c = sym (front-length (filled (c .before)))
-
-put-all-requires : tie.Need-put-all-requires
-put-all-requires c κs = search needs
-
 returns : tie.Need-returns
 returns c = c .put-all .ensures ∙ ap packed (front-grow (filled (c .before .before)))
 
 pub turn-spec : {M : Type 1} → statement M
 turn-spec =
-    tie.close
-    (tie.spec
-    slice-aggregate-fill
-    array-share-prefix-states
-    slice-aggregate-fill-2
-    fill-requires
-    cells-of-requires
-    array-share-prefix-sets
-    slice-aggregate-put-all
-    put-all-requires
-    returns)
+    tie.close (tie.spec (λ c. search needs) (λ c. search needs) slice-aggregate-fill-2 fill-requires cells-of-requires (λ c. front-fits (filled c))
+    (λ c. sym (front-length (filled (c .before)))) (λ c κs. search needs) returns)

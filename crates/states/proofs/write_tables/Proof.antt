@@ -1,10 +1,5 @@
 -- `states::write_tables` meets its contract: the tables are the numbers of the sets at the buffer's front. Assumes nothing.
-use Prim.Native.Nat.{ℕ}
-use mathlib.Core.List.{List, _++_}
-use mathlib.Core.Path.{sym, ap₂, _∙_}
-use native.Mathlib.Omega.{arith}
-use lib.ListN.{drop}
-use borrow.Author.Needs.{needs}
+use Rattle.meaning.proofs.Prelude.{ℕ, sym, _∙_, ap₂, List, _++_, drop, arith, needs}
 use Rattle.states.specs.Asked.{productionsAt}
 use Rattle.states.proofs.Filling.{Filled, small, fillable, front-fits, front-length, front-tables}
 use Rattle.states.proofs.write_tables.Statement.{statement}
@@ -22,9 +17,6 @@ filled :
     (c .cells-of .result)
 filled c = record { holds = c .before .before .fill .ensures; counts = c .cells-of .ensures }
 
-slice-aggregate-fill : tie.Need-slice-aggregate-fill
-slice-aggregate-fill c = search needs
-
 fill-requires : tie.Need-fill-requires
 fill-requires c κs =
     let a = c .before .before .before .before .before .args in
@@ -37,20 +29,11 @@ cells-of-requires c κs =
     let pre = c .before .before .before .before .before .before .before .pre in
     (pre .0 .0, omega (arith, pre .0 .2 .symbols), small (a .arities .now) (a .types) (pre .0 .2))
 
-array-share-prefix-sets : tie.Need-array-share-prefix-sets
-array-share-prefix-sets c = front-fits (filled (c .before))
-
-slice-aggregate-write-indices : tie.Need-slice-aggregate-write-indices
-slice-aggregate-write-indices c = sym (front-length (filled (c .before .before)))
-
 write-indices-requires : tie.Need-write-indices-requires
 write-indices-requires c κs =
     let pre = c .before .before .before .before .before .before .before .before .before .before .pre in
     let counted = c .before .before in
     (pre .0 .0, omega (arith, front-length (filled counted), counted .cells-of .ensures, pre .0 .1))
-
-same-length : tie.Need-same-length
-same-length c = search needs
 
 returns : tie.Need-returns
 returns c =
@@ -64,13 +47,5 @@ returns c =
 
 pub write-tables-spec : {M : Type 1} → statement M
 write-tables-spec =
-    tie.close
-    (tie.spec
-    slice-aggregate-fill
-    fill-requires
-    cells-of-requires
-    array-share-prefix-sets
-    slice-aggregate-write-indices
-    write-indices-requires
-    same-length
-    returns)
+    tie.close (tie.spec (λ c. search needs) fill-requires cells-of-requires (λ c. front-fits (filled (c .before)))
+    (λ c. sym (front-length (filled (c .before .before)))) write-indices-requires (λ c. search needs) returns)

@@ -1,9 +1,6 @@
 -- `text::decimal_length` meets its contract. The invariant: the digits counted and those of what is left are one more than those of the number.
 -- The measure is what is left. Assumes nothing.
-use Prim.Native.Nat.{_+_}
-use mathlib.Core.Path.{_≡_}
-use native.Mathlib.Omega.{arith}
-use lib.ListN.{length}
+use Rattle.meaning.proofs.Prelude.{_+_, _≡_, length, arith}
 use Rattle.text.specs.Decimal.{decimal}
 use Rattle.text.proofs.Decimal.{length-small, length-more, length-pos, length-u64}
 use Rattle.text.proofs.decimal_length.Statement.{statement}
@@ -15,14 +12,8 @@ Inv-loop n k₀ rest₀ k rest = k + length (decimal rest) ≡ length (decimal n
 abbrev μ-loop : tie.MeasureT-loop
 μ-loop n k₀ rest₀ k rest = rest
 
-loop-holds : tie.Need-loop-holds Inv-loop μ-loop
-loop-holds c = omega arith
-
 add-k : tie.Need-add-k Inv-loop μ-loop
 add-k c = omega (arith, length-u64 (c .before .before .args .n) (omega arith), length-pos (c .before .loop .rest))
-
-loop-less : tie.Need-loop-less Inv-loop μ-loop
-loop-less c = omega arith
 
 loop-again : tie.Need-loop-again Inv-loop μ-loop
 loop-again c = omega (arith, length-more (c .before .loop .rest) (omega arith))
@@ -31,5 +22,4 @@ returns : tie.Need-returns Inv-loop μ-loop
 returns c = omega (arith, length-small (c .before .loop .rest) (omega arith))
 
 pub decimal-length-spec : {M : Type 1} → statement M
-decimal-length-spec =
-    tie.close (tie.spec Inv-loop μ-loop loop-holds add-k loop-less loop-again returns)
+decimal-length-spec = tie.close (tie.spec Inv-loop μ-loop (λ c. omega arith) add-k (λ c. omega arith) loop-again returns)

@@ -1,11 +1,8 @@
 -- `text::put_decimal` meets its contract. The invariant: the buffer with the digits of what is left pasted, as many as there is place for
 -- before `i`, is the buffer at the start with the whole number pasted. The measure is `i`. Assumes nothing.
-use Prim.Native.Nat.{ℕ, _-_, _/_, _≤_}
-use mathlib.Core.Path.{_≡_, refl, ap, _∙_}
-use native.Mathlib.Omega.{arith}
-use lib.ListN.{length, set, length-set}
+use Rattle.meaning.proofs.Prelude.{ℕ, _≤_, _-_, _/_, _≡_, refl, ap, _∙_, length, set, length-set, arith}
 use Rattle.text.specs.Decimal.{decimal}
-use Rattle.text.specs.Pasted.{pasted}
+use Rattle.bytes.specs.Pasted.{pasted}
 use Rattle.text.proofs.Decimal.{lastDigits}
 use Rattle.text.proofs.Turns.{digits-all, digits-next, digits-done}
 use Rattle.text.proofs.put_decimal.Statement.{statement}
@@ -18,29 +15,11 @@ Inv-loop out₀ at n end i₀ rest₀ out i rest =
 abbrev μ-loop : tie.MeasureT-loop
 μ-loop out₀ at n end i₀ rest₀ out i rest = i
 
-decimal-length-requires : tie.Need-decimal-length-requires Inv-loop μ-loop
-decimal-length-requires c κs = tt
-
-add-end : tie.Need-add-end Inv-loop μ-loop
-add-end c = omega arith
-
 loop-holds : tie.Need-loop-holds Inv-loop μ-loop
 loop-holds c =
     let a = c .before .before .args in
     let k = c .decimal-length in
     (omega arith, omega arith, refl, ap (pasted (a .out .now) (a .at)) (digits-all (a .at) (k .result) (a .n) (k .ensures)))
-
-sub-i : tie.Need-sub-i Inv-loop μ-loop
-sub-i c = omega arith
-
-last-digit-requires : tie.Need-last-digit-requires Inv-loop μ-loop
-last-digit-requires c κs = tt
-
-slice-write-out : tie.Need-slice-write-out Inv-loop μ-loop
-slice-write-out c = omega arith
-
-loop-less : tie.Need-loop-less Inv-loop μ-loop
-loop-less c = omega arith
 
 loop-again : tie.Need-loop-again Inv-loop μ-loop
 loop-again c =
@@ -55,9 +34,6 @@ loop-again c =
           ∙ l .inv .3,
     )
 
-same-length : tie.Need-same-length Inv-loop μ-loop
-same-length c = c .before .loop .inv .2
-
 returns : tie.Need-returns Inv-loop μ-loop
 returns c =
     let a = c .before .before .before .before .args in
@@ -66,17 +42,5 @@ returns c =
 
 pub put-decimal-spec : {M : Type 1} → statement M
 put-decimal-spec =
-    tie.close
-    (tie.spec
-    Inv-loop
-    μ-loop
-    decimal-length-requires
-    add-end
-    loop-holds
-    sub-i
-    last-digit-requires
-    slice-write-out
-    loop-less
-    loop-again
-    same-length
-    returns)
+    tie.close (tie.spec Inv-loop μ-loop (λ c κs. tt) (λ c. omega arith) loop-holds (λ c. omega arith) (λ c κs. tt) (λ c. omega arith)
+    (λ c. omega arith) loop-again (λ c. c .before .loop .inv .2) returns)

@@ -1,14 +1,8 @@
 -- `vectors::are_pieces` meets its contract. The loop's invariant: the listing begins with the pieces before `k`, up to `from`; the measure is how many
 -- pieces are left. Assumes nothing.
-use Prim.Native.Nat.{ℕ, _+_, _-_, _≤_}
-use mathlib.Core.Path.{_≡_, refl, sym, _∙_}
-use native.Mathlib.Omega.{arith}
-use lib.ListN.{length, take}
-use lib.Seq.{length-take-le}
-use borrow.Author.Needs.{needs}
-use borrow.Author.Tests.{not-false, eqb-true}
+use Rattle.meaning.proofs.Prelude.{ℕ, _+_, _≤_, _-_, _≡_, refl, sym, _∙_, length, take, length-take-le, arith, not-false, eqb-true, needs}
 use Rattle.meaning.specs.Lists.{joined, table}
-use Rattle.lines.specs.Listing.{pieces, piece}
+use Rattle.listing_text.specs.Listing.{pieces, piece}
 use Rattle.vectors.proofs.Standing.{piece-stands, pieces-all}
 use Rattle.vectors.proofs.are_pieces.Statement.{statement}
 use Rattle.vectors.proofs.are_pieces.Tie as tie
@@ -24,20 +18,14 @@ Inv-loop file known states marks verdicts atoms rounds expected out₀ count fro
 abbrev μ-loop : tie.MeasureT-loop
 μ-loop file known states marks verdicts atoms rounds expected out₀ count from₀ k₀ out from k = count - k
 
-piece-count-requires : tie.Need-piece-count-requires Inv-loop μ-loop
-piece-count-requires c κs = c .before .before .before .before .before .before .pre .0
-
 loop-holds : tie.Need-loop-holds Inv-loop μ-loop
-loop-holds c = (refl, omega arith, omega arith, c .piece-count .ensures, refl)
+loop-holds c = (refl, omega arith, omega arith, c .piece-count .ensures _ (c .before .before .before .before .before .before .before .pre .0), refl)
 
 put-piece-requires : tie.Need-put-piece-requires Inv-loop μ-loop
 put-piece-requires c κs =
     let p = c .before .before .before .before .before .before .before .before .before .before .pre in
     let loop = c .before .before .loop in
     ((p .0, p .1), (p .2, p .3, omega (arith, loop .inv .3, c .before .loop-test .taken), omega (arith, loop .inv .0, p .4)))
-
-slice-reshare-prefix-stands-at : tie.Need-slice-reshare-prefix-stands-at Inv-loop μ-loop
-slice-reshare-prefix-stands-at c = search needs
 
 -- a piece fits the buffer, whose length is kept
 fits : (c : tie.After-put-piece Inv-loop μ-loop) → c .put-piece .result ≤ length (c .put-piece .last .0)
@@ -62,23 +50,11 @@ stands-at-requires c κs = c .before .before .before .before .before .before .lo
 same-length : tie.Need-same-length Inv-loop μ-loop
 same-length c = kept (c .before .before .before .before .before) ∙ c .before .before .before .before .before .before .before .before .loop .inv .0
 
-returns : tie.Need-returns Inv-loop μ-loop
-returns c = λ e. absurd (let z : _≡_ {A = ℕ} 0 1 = cc in omega arith)
-
 add-from : tie.Need-add-from Inv-loop μ-loop
 add-from c = omega (arith, stood c .0, c .before .before .before .before .before .before .before .before .before .before .before .before .before .before .before .before .good .1 .1 .1 .1 .1 .1 .1 .0)
 
-add-k : tie.Need-add-k Inv-loop μ-loop
-add-k c = search needs
-
-loop-less : tie.Need-loop-less Inv-loop μ-loop
-loop-less c = omega arith
-
 loop-again : tie.Need-loop-again Inv-loop μ-loop
 loop-again c = let loop = c .before .before .before .before .before .before .before .before .loop in (kept (c .before .before .before .before .before) ∙ loop .inv .0, stood c .0, omega arith, loop .inv .3, stood c .1)
-
-same-length-2 : tie.Need-same-length-2 Inv-loop μ-loop
-same-length-2 c = c .before .loop .inv .0
 
 returns-2 : tie.Need-returns-2 Inv-loop μ-loop
 returns-2 c =
@@ -88,21 +64,6 @@ returns-2 c =
 
 pub are-pieces-spec : {M : Type 1} → statement M
 are-pieces-spec =
-    tie.close
-    (tie.spec
-    Inv-loop
-    μ-loop
-    piece-count-requires
-    loop-holds
-    put-piece-requires
-    slice-reshare-prefix-stands-at
-    slice-aggregate-stands-at
-    stands-at-requires
-    same-length
-    returns
-    add-from
-    add-k
-    loop-less
-    loop-again
-    same-length-2
-    returns-2)
+    tie.close (tie.spec Inv-loop μ-loop (λ c κs. (c .before .before .before .before .before .before .args .file .now, c .before .before .before .before .before .before .pre .0)) loop-holds put-piece-requires
+    (λ c. search needs) slice-aggregate-stands-at stands-at-requires same-length (λ c. λ e. absurd (let z : _≡_ {A = ℕ} 0 1 = cc in omega arith))
+    add-from (λ c. search needs) (λ c. omega arith) loop-again (λ c. c .before .loop .inv .0) returns-2)

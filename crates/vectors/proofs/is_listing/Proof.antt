@@ -1,15 +1,9 @@
 -- `vectors::is_listing` meets its contract: the text of a refusal is that of the file, and with 0 the analysis has filled the buffers. Assumes nothing.
-use Prim.Native.Nat.{_≤_}
-use mathlib.Core.Path.{_≡_, sym, ap, _∙_}
-use mathlib.Core.Logic.{_≢_}
-use native.Mathlib.Omega.{arith}
-use lib.ListN.{length}
-use lib.Seq.{length-take-le}
+use Rattle.meaning.proofs.Prelude.{_≤_, sym, _≢_, length, length-take-le, arith, needs}
 use Rattle.meaning.specs.Calls.{Buffers}
 use Rattle.analysis.proofs.Done.{filled-is}
 use Rattle.listing_answer.proofs.Texts.{text-is, text-inside}
 use Rattle.vectors.proofs.Standing.{refused-is}
-use borrow.Author.Needs.{needs}
 use Rattle.vectors.proofs.is_listing.Statement.{statement}
 use Rattle.vectors.proofs.is_listing.Tie as tie
 

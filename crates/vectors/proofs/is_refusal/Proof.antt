@@ -1,8 +1,5 @@
 -- `vectors::is_refusal` meets its contract. Assumes nothing.
-use mathlib.Core.Path.{ap}
-use mathlib.Core.Bool.{Bool, not, _&&_}
-use lib.Dec.{eqb}
-use borrow.Author.Needs.{needs}
+use Rattle.meaning.proofs.Prelude.{ap, Bool, not, _&&_, eqb, needs}
 use Rattle.vectors.proofs.is_refusal.Statement.{statement}
 use Rattle.vectors.proofs.is_refusal.Tie as tie
 

@@ -1,46 +1,21 @@
 -- `vectors::word_at` meets its contract. Assumes nothing.
-use Prim.Native.Nat.{_+_, _*_}
-use native.Mathlib.Omega.{arith}
-use borrow.Author.Needs.{needs}
+use Rattle.meaning.proofs.Prelude.{_+_, _*_, arith, needs}
 use Rattle.vectors.proofs.word_at.Statement.{statement}
 use Rattle.vectors.proofs.word_at.Tie as tie
 
-shared-slice-read-wide : tie.Need-shared-slice-read-wide
-shared-slice-read-wide c = search needs
-
-wide-requires : tie.Need-wide-requires
-wide-requires c κs = search needs
-
 mul-result : tie.Need-mul-result
-mul-result c = omega (arith, c .wide .ensures, c .before .shared-slice-known2 .given (c .before .before .before .args .at))
-
-add-wide : tie.Need-add-wide
-add-wide c = search needs
-
-shared-slice-read-wide-2 : tie.Need-shared-slice-read-wide-2
-shared-slice-read-wide-2 c = search needs
-
-wide-requires-2 : tie.Need-wide-requires-2
-wide-requires-2 c κs = search needs
+mul-result c = omega (arith, c .wide .ensures .0, c .before .shared-slice-known2 .given (c .before .before .before .args .at))
 
 add-result : tie.Need-add-result
-add-result c = omega (arith, c .before .before .wide .ensures, c .before .before .before .shared-slice-known2 .given (c .before .before .before .before .before .args .at), c .wide2 .ensures, c .before .shared-slice-known3 .given (c .before .before .before .before .before .args .at + 1))
+add-result c = omega (arith, c .before .before .wide .ensures .0, c .before .before .before .shared-slice-known2 .given (c .before .before .before .before .before .args .at), c .wide2 .ensures .0, c .before .shared-slice-known3 .given (c .before .before .before .before .before .args .at + 1))
 
 returns : tie.Need-returns
 returns c = (
-  λ i. c .before .before .wide .ensures i * 256 + c .wide2 .ensures i,
-  omega (arith, c .before .before .wide .ensures, c .before .before .before .shared-slice-known2 .given (c .before .before .before .before .before .args .at), c .wide2 .ensures, c .before .shared-slice-known3 .given (c .before .before .before .before .before .args .at + 1)),
+  λ i. c .before .before .wide .ensures .0 i * 256 + c .wide2 .ensures .0 i,
+  omega (arith, c .before .before .wide .ensures .0, c .before .before .before .shared-slice-known2 .given (c .before .before .before .before .before .args .at), c .wide2 .ensures .0, c .before .shared-slice-known3 .given (c .before .before .before .before .before .args .at + 1)),
 )
 
 pub word-at-spec : {M : Type 1} → statement M
 word-at-spec =
-    tie.close
-    (tie.spec
-    shared-slice-read-wide
-    wide-requires
-    mul-result
-    add-wide
-    shared-slice-read-wide-2
-    wide-requires-2
-    add-result
-    returns)
+    tie.close (tie.spec (λ c. search needs) (λ c κs. search needs) mul-result (λ c. search needs) (λ c. search needs) (λ c κs. search needs)
+    add-result returns)

@@ -1,0 +1,4 @@
+pub mod Ready
+pub mod Answering
+pub mod Handed
+pub mod Handing

@@ -1,7 +1,0 @@
--- What a sheet check hands back, as `meaning` has it: number and place, with the buffers afterwards.
-use Rattle.meaning.specs.Calls.{Lent, Checked}
-use Rattle.accept.specs.declared.Answer.{Answer}
-use Rattle.accept.specs.Accepted.{answered}
-
-abbrev pub gave : Answer → Lent → Checked
-gave answer after = record { answer = answered answer; after = after }

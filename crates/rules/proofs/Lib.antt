@@ -1,7 +1,0 @@
-pub mod Keeping
-pub mod Reached
-pub mod Turns
-pub mod Constants
-pub mod Sizes
-pub mod Whole
-pub mod Limits
