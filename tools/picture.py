@@ -20,6 +20,7 @@ ROWS = [["printing", "calls", "sheets"], ["automaton", "engine"], ["rule file", 
 PHRASES = """
 meaning          what is claimed, / and its theorems
 evaluation       semi-naive evaluation: / definitions, laws
+answers          a number / and a place
 bytes            widths, comparison, / fills, copies
 bitsets          states, predicates, / clauses as bits
 cells            powers of m, cells / of rows, segments
@@ -36,6 +37,8 @@ acceptance       a file accepted, / or refused: 1 to 8
 index_update     the index of atoms / by argument: kept
 index_lookup     the index of atoms / by argument: asked
 term_code        terms compiled to / instructions
+domains          the states left / to a variable
+variable_order   which variable / gets a slot next
 clause_code      a clause compiled: / order, slots, hints
 schedule         all clauses compiled; / which of them are due
 propagation      instructions run up to / the next variable
@@ -45,6 +48,7 @@ clause_runs      the due clauses, / in file order
 marks            a predicate's marks: / zeroed, counted
 delta_merge      a round settled: the / delta into the stage
 fixpoint         rounds, until nothing / is new: the model
+conditions       the states that / meet a condition
 queries          the verdict of / a query
 sheet_reader     a sheet read / field by field
 sheet_layout     a sheet's fields (10) / and states (11)
@@ -52,16 +56,18 @@ sheet_atoms      a sheet's atoms / marked (12)
 sheet_closure    is a sheet closed / under the clauses (13)
 sheet_writer     the bytes of / a written sheet
 sheet_answer     10 to 13 / in their order
-sheet_check      9 before, and the / marks zeroed after
+sheet_check      the call / check
 analysis_output  model and verdicts / into lent buffers
 analysis         the call analyse
-certificate      the calls write / and check
+certificate      the call / write
 exports          the three calls / for C and Rust
 text             decimals / into a buffer
 listing_text     the text of / a listing's lines
 listing_answer   analysis for a listing, / or a refusal's line
 listing          program: prints / a listing
-vectors          program: plays inputs, / compares answers
+folders          numbered files read, / counts printed
+vectors          program: plays inputs, / compares listings
+sheet_vectors    program: plays sheets, / compares answers
 """
 
 BOX, HIGH, ACROSS, DOWN = 146, 50, 16, 28  # a crate's box, and the room between two

@@ -16,7 +16,7 @@ use Rattle.declarations.proofs.Knowing.{length-arities, count-of, known-types, 
 use Rattle.parser.proofs.Keeping.{length-padded}
 use Rattle.parser.proofs.Whole.{well, knows-all, earlier, reads}
 use Rattle.automaton.specs.Marking.{AreProductions}
-use Rattle.states.specs.Asked.{Limited}
+use Rattle.states.specs.Asked.{Limited, Determinable}
 use Rattle.acceptance.specs.Accepted.{fieldsKnown}
 
 -- fields with rising tags are as many as there are of the six kinds
@@ -68,7 +68,7 @@ module _ (file : List ℕ) (known : Known) (e : readAnswer file ≡ accepted) (k
         bits = omega (arith, types-are, w .counts type);
       }
 
-  pub productions : AreProductions (knownTypes known) (knownSymbols known) (getD (known .counts) 3 0) (earlierIn file known 3)
+  productions : AreProductions (knownTypes known) (knownSymbols known) (getD (known .counts) 3 0) (earlierIn file known 3)
   productions =
       let w = well file known e knows in
       let found = earlier file known e knows production in
@@ -79,6 +79,9 @@ module _ (file : List ℕ) (known : Known) (e : readAnswer file ≡ accepted) (k
             subst (All (WellProduction (knownTypes known) (knownSymbols known))) (ap (map productionOf) (sym found))
             (subst₂ (λ (n : ℕ) (ss : List ℕ). All (WellProduction n ss) (map productionOf (contents production fs))) (sym types-are) (sym symbols-are) (read-productions fs w .1));
       }
+
+  pub determinable : Determinable file (getD (known .starts) 3 0) (getD (known .counts) 3 0) (knownSymbols known) (knownTypes known)
+  determinable = record { limited = limited; productions = productions }
 
   -- the states and the tables by what is known are the file's
   pub states-are : statesFor (knownSymbols known) (knownTypes known) (map productionOf (earlierIn file known 3)) ≡ statesOf file

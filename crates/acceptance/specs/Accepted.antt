@@ -1,4 +1,4 @@
--- What is handed on of a file: its answer, the number of its fields, its states.
+-- What is handed on of a file: the number of its fields, its states.
 use Prim.Native.Nat.{ℕ, _+_}
 use mathlib.Core.Bool.{cond}
 use mathlib.Core.List.{List, []}
@@ -9,11 +9,6 @@ use Rattle.meaning.specs.Calls.{statesOf}
 use Rattle.declarations.specs.declared.Known.{Known}
 use Rattle.states.specs.declared.States.{States}
 use Rattle.states.specs.Packed.{packed}
-use Rattle.acceptance.specs.declared.Answer.{Answer}
-
--- an answer as `meaning` has it
-abbrev pub answered : Answer → meant.Answer
-answered a = meant.refused (a .number) (a .place)
 
 -- as many fields as there are of the six kinds
 abbrev pub fieldsKnown : Known → ℕ

@@ -1,27 +1,23 @@
 // A rule file accepted, or refused with 1 to 8: read, and its states found. What every public call starts with.
+use answers::Answer;
 use declarations::Known;
 use declarations::Refusal;
 use states::Count;
 use states::States;
 ghost use mathlib.Core.Path.{_≡_};
 ghost use mathlib.Core.List.{[]};
-ghost use Prim.Native.Nat.{ℕ, _≤_, _<_};
+ghost use Prim.Native.Nat.{ℕ, _≤_};
 ghost use lib.Dec.{ltb};
 ghost use lib.ListN.{length};
 ghost use Rattle.meaning.specs.Limits.{mostStates};
-ghost use Rattle.meaning.specs.Refusals.{accepted, refused, refuseIf};
+ghost use Rattle.meaning.specs.Refusals.{accepted, refuseIf};
 ghost use Rattle.meaning.specs.Files.{readAnswer, fileAnswer};
 ghost use Rattle.meaning.specs.Calls.{statesOf, tablesOf, written};
 ghost use Rattle.declarations.specs.Known.{Knows, fieldsRead};
 ghost use Rattle.declarations.specs.Refusal.{answerOf};
 ghost use Rattle.states.specs.Packed.{packed, countAnswer};
-ghost use Rattle.acceptance.specs.Accepted.{answered, fieldsKnown, statesGiven};
-
-// A number with its place: 0 at 0 where nothing is refused.
-pub struct Answer {
-    pub number: usize,
-    pub place: usize,
-}
+ghost use Rattle.answers.specs.Answered.{answered};
+ghost use Rattle.acceptance.specs.Accepted.{fieldsKnown, statesGiven};
 
 // The answer to a file, what was read of it, and its states: none if it is refused with 1 to 7.
 pub struct Acceptance {
@@ -30,35 +26,19 @@ pub struct Acceptance {
     pub states: States,
 }
 
-// Nothing is refused.
-pub fn no_refusal() -> Answer
-    ensures { λ r. ⌜ answered r ≡ accepted ⌝ }
-{
-    Answer {
-        number: 0,
-        place: 0,
-    }
-}
-
-pub fn refusal(number: usize, place: usize) -> Answer
-    ensures { λ r. ⌜ answered r ≡ refused number place ⌝ }
-{
-    Answer { number, place }
-}
-
 // The number and place of a refusal.
 fn answer_of(v: Refusal) -> Answer
     ensures { λ r. ⌜ answered r ≡ answerOf v ⌝ }
 {
     match v {
-        Refusal::None => no_refusal(),
-        Refusal::TooLong => refusal(meaning::FILE_TOO_LONG, 0),
-        Refusal::Cut(k) => refusal(meaning::FIELD_CUT, k),
-        Refusal::WrongTag(k) => refusal(meaning::WRONG_TAG, k),
-        Refusal::Malformed(k) => refusal(meaning::MALFORMED, k),
-        Refusal::NameTaken(k) => refusal(meaning::NAME_TAKEN, k),
-        Refusal::TooMany(k) => refusal(meaning::TOO_MANY, k),
-        Refusal::NoConstant(k) => refusal(meaning::NO_CONSTANT, k),
+        Refusal::None => answers::no_refusal(),
+        Refusal::TooLong => answers::refusal(meaning::FILE_TOO_LONG, 0),
+        Refusal::Cut(k) => answers::refusal(meaning::FIELD_CUT, k),
+        Refusal::WrongTag(k) => answers::refusal(meaning::WRONG_TAG, k),
+        Refusal::Malformed(k) => answers::refusal(meaning::MALFORMED, k),
+        Refusal::NameTaken(k) => answers::refusal(meaning::NAME_TAKEN, k),
+        Refusal::TooMany(k) => answers::refusal(meaning::TOO_MANY, k),
+        Refusal::NoConstant(k) => answers::refusal(meaning::NO_CONSTANT, k),
     }
 }
 
@@ -67,8 +47,8 @@ fn count_answer(count: Count, fields: usize) -> Answer
     ensures { λ r. ⌜ answered r ≡ countAnswer fields count ⌝ }
 {
     match count {
-        Count::Known(_) => no_refusal(),
-        Count::TooMany => refusal(meaning::TOO_MANY_STATES, fields),
+        Count::Known(_) => answers::no_refusal(),
+        Count::TooMany => answers::refusal(meaning::TOO_MANY_STATES, fields),
     }
 }
 
@@ -109,7 +89,6 @@ fn states_of(file: &[u8], known: Known) -> States
         starts[declarations::PRODUCTIONS],
         counts[declarations::PRODUCTIONS],
         &symbols[..n],
-        counts[declarations::TYPES],
     )
 }
 
@@ -153,7 +132,6 @@ pub fn write_file_tables(buffer: &mut [u8], file: &[u8], known: Known, states: &
         buffer,
         states,
         &symbols[..n],
-        counts[declarations::TYPES],
         file,
         starts[declarations::PRODUCTIONS],
         counts[declarations::PRODUCTIONS],

@@ -6,8 +6,8 @@ use Rattle.meaning.specs.Refusals as meant
 use Rattle.meaning.proofs.Lists.{both}
 use Rattle.meaning.proofs.Answers.{then-first, then-next}
 use Rattle.meaning.proofs.Calls.{analysis-refused, analysis-filled}
-use Rattle.acceptance.specs.declared.Answer.{Answer}
-use Rattle.acceptance.specs.Accepted.{answered}
+use Rattle.answers.specs.declared.Answer.{Answer}
+use Rattle.answers.specs.Answered.{answered}
 use Rattle.analysis.specs.Given.{given, noCounts}
 
 module _ (file : List ℕ) (before : Buffers) where

@@ -6,8 +6,8 @@ use lib.ListN.{length}
 use Rattle.meaning.specs.Refusals.{accepted}
 use Rattle.meaning.specs.Files.{fileAnswer}
 use Rattle.meaning.specs.Calls.{statesOf, modelOf, verdictsOf, written, Buffers, Analysed}
-use Rattle.acceptance.specs.declared.Answer.{Answer}
-use Rattle.acceptance.specs.Accepted.{answered}
+use Rattle.answers.specs.declared.Answer.{Answer}
+use Rattle.answers.specs.Answered.{answered}
 use Rattle.analysis.specs.declared.Analysis.{Analysis}
 
 -- number, place and counts, with the buffers afterwards

@@ -1,6 +1,6 @@
 // Sets of types, and the sets that the symbols give over all rows of some sets.
 use fields::Found;
-ghost use Prim.Native.Nat.{_≤_, _<_};
+ghost use Prim.Native.Nat.{ℕ, _≤_, _<_};
 ghost use mathlib.Core.Path.{_≡_};
 ghost use mathlib.Core.List.{_++_, map};
 ghost use lib.Bits.{bitOr};
@@ -111,18 +111,10 @@ fn mark_production(sets: &mut [u16], states: &[u16], arities: &[u8], content: &[
 }
 
 // The sets that the symbols give over all rows of some sets, symbol after symbol: one pass over the productions.
-pub fn fill(
-    sets: &mut [u16],
-    states: &[u16],
-    arities: &[u8],
-    types: u8,
-    file: &[u8],
-    from: usize,
-    count: u8,
-)
-    requires { ⌜ Fillable (now states) (now arities) (now sets) × (types ≤ 16) ⌝ }
-    requires { ⌜ AreProductions types (now arities) count (contentsFrom count (drop from (now file))) ⌝ }
-    ensures { λ r. ⌜ now (sets .exit) ≡ givenSets (map productionOf (contentsFrom count (drop from (now (file .entry))))) types (now (states .entry)) (now (arities .entry)) ++ drop (cells (length (now (states .entry))) (now (arities .entry))) (now (sets .entry)) ⌝ }
+pub fn fill(sets: &mut [u16], states: &[u16], arities: &[u8], file: &[u8], from: usize, count: u8)
+    requires { ⌜ Fillable (now states) (now arities) (now sets) ⌝ }
+    requires { ⌜ ((types : ℕ) × (types ≤ 16) × AreProductions types (now arities) count (contentsFrom count (drop from (now file)))) ⌝ }
+    ensures { λ r. ⌜ ((types : ℕ) → types ≤ 16 → AreProductions types (now (arities .entry)) count (contentsFrom count (drop from (now (file .entry)))) → now (sets .exit) ≡ givenSets (map productionOf (contentsFrom count (drop from (now (file .entry))))) types (now (states .entry)) (now (arities .entry)) ++ drop (cells (length (now (states .entry))) (now (arities .entry))) (now (sets .entry))) ⌝ }
 {
     empty_sets(sets, cells::cells_of(arities, states.len()));
     let mut at = from;

@@ -6,15 +6,16 @@ use Rattle.meaning.proofs.Definitions.{OrderOf, analysisAnswer, analysed, writi
 use Rattle.meaning.proofs.Lists.{cond-yes, cond-no, not-intro, not-not-intro}
 use Rattle.meaning.proofs.Answers.{then-first, then-next, if-yes, if-no}
 use Rattle.meaning.proofs.Calls.{analysis-zero, writing-refused}
-use Rattle.acceptance.specs.declared.Answer.{Answer}
-use Rattle.acceptance.specs.Accepted.{answered}
+use Rattle.answers.specs.declared.Answer.{Answer}
+use Rattle.answers.specs.Answered.{answered}
 use Rattle.analysis.specs.declared.Analysis.{Analysis}
 use Rattle.analysis.specs.Given.{given, noCounts}
 use Rattle.analysis.proofs.Ends as analysis
 use Rattle.analysis.proofs.Done.{count-of-states, count-of-atoms, count-of-rounds}
 use Rattle.certificate.specs.declared.Writing.{Writing}
-use Rattle.certificate.specs.Given.{wrote, nothingWritten, ifRoom}
-use Rattle.certificate.proofs.Sheets.{has-room, lacks-room, room-written, room-kept}
+use Rattle.sheet_writer.specs.Fits.{ifRoom}
+use Rattle.certificate.specs.Given.{wrote, nothingWritten}
+use Rattle.sheet_writer.proofs.Sheets.{has-room, lacks-room, room-written, room-kept}
 
 -- the sheet of a file, with the atoms in the order of their cells
 abbrev pub sheetFor : List ℕ → List ℕ

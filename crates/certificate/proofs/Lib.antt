@@ -1,3 +1,2 @@
 pub mod Ends
 pub mod Ready
-pub mod Sheets

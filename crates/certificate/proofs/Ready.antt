@@ -10,7 +10,8 @@ use Rattle.analysis.specs.declared.Analysis.{Analysis}
 use Rattle.analysis.specs.Given.{given, Filled}
 use Rattle.analysis.proofs.Done.{accepted-is, holds-states, holds-marks, holds-verdicts}
 use Rattle.analysis.proofs.Shown.{shown-few, preds-fit, preds-few, preds-narrow, marks-size}
-use Rattle.certificate.specs.Given.{sheetOf, ifRoom}
+use Rattle.sheet_writer.specs.declared.Fit.{Fit}
+use Rattle.sheet_writer.specs.Fits.{sheetOf, ifRoom, fitOf}
 use Rattle.certificate.proofs.Ends.{sheetFor}
 
 -- an analysis with the known and the states of its file, that hands back 0
@@ -70,7 +71,7 @@ module _ {file : List ℕ} {known : Known} {found : List ℕ} {before after : Bu
           let marks = holds-first (modelOf file) (after .marks) (filled .marksAre) (marks-size filled (h .knows) e cut) in
           λ i. sheetOf (h .states i) (arities i) (marks i)
 
-      pub put-is : (sheet : List ℕ) {n : ℕ} {sheet′ : List ℕ}
-          → (n ≡ length (sheetOf found preds (take size (after .marks)))) × (sheet′ ≡ ifRoom (sheetOf found preds (take size (after .marks))) sheet)
-          → (n ≡ length (sheetFor file)) × (sheet′ ≡ ifRoom (sheetFor file) sheet)
-      put-is sheet w = (w .0 ∙ ap length sheet-is, w .1 ∙ ap (λ (l : List ℕ). ifRoom l sheet) sheet-is)
+      pub put-is : (sheet : List ℕ) {r : Fit} {sheet′ : List ℕ}
+          → (r ≡ fitOf (sheetOf found preds (take size (after .marks))) sheet) × (sheet′ ≡ ifRoom (sheetOf found preds (take size (after .marks))) sheet)
+          → (r ≡ fitOf (sheetFor file) sheet) × (sheet′ ≡ ifRoom (sheetFor file) sheet)
+      put-is sheet w = (w .0 ∙ ap (λ (l : List ℕ). fitOf l sheet) sheet-is, w .1 ∙ ap (λ (l : List ℕ). ifRoom l sheet) sheet-is)

@@ -65,7 +65,7 @@ pub extern "C" fn rules_check(
 ) -> usize
     ensures { λ r. ⌜ check r (now (place .exit)) (record { tables = now (tables .exit); marks = now (marks .exit) }) ≡ checked (now (file .entry)) (now (sheet .entry)) (record { tables = now (tables .entry); marks = now (marks .entry) }) ⌝ }
 {
-    let checked = certificate::check(file, sheet, tables, marks);
+    let checked = sheet_check::check(file, sheet, tables, marks);
     *place = checked.place;
     checked.number
 }

@@ -5,7 +5,7 @@ use Rattle.meaning.proofs.Definitions.{Answer, ok, Buffers, Analysed, analysisA
 use Rattle.bytes.specs.Pasted.{pasted, Put}
 use Rattle.bytes.proofs.Pasted.{pasted-nil, take-pasted}
 use Rattle.listing_text.specs.Lines.{refusedLine, refusalText}
-use Rattle.acceptance.specs.Accepted.{answered}
+use Rattle.answers.specs.Answered.{answered}
 use Rattle.analysis.specs.Given.{given}
 use Rattle.analysis.specs.declared.Analysis.{Analysis}
 

@@ -55,6 +55,9 @@ pub const ATOM_TAG: u8 = 17;
 // A clause's content: its variables, its body atoms, and from here on its head.
 pub const HEAD: usize = 2;
 
+// A query's content: its variables, from here on a condition for each, and behind them its atom.
+pub const CONDITIONS: usize = 1;
+
 // A production's content: its target type, its symbol, and from here on the types of its arguments.
 pub const ARGUMENTS: usize = 2;
 

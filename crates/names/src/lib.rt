@@ -1,7 +1,5 @@
 // Names, symbols, predicates and productions: whether the content of a field is as laid out.
 ghost use mathlib.Core.Path.{_≡_};
-ghost use lib.Dec.{ltb};
-ghost use Rattle.meaning.specs.Lists.{allOf, same};
 ghost use Rattle.meaning.specs.Contents.{nameByte, isName, isNamed, isProduction};
 
 // a-z, 0-9, `[`, `]`, `_`, by a test with no branches.

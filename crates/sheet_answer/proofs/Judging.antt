@@ -13,8 +13,8 @@ use Rattle.meaning.proofs.Certificates.{check-misplaced, check-differ, check-wr
 use Rattle.meaning.proofs.MarkedAtoms.{marked-atoms-exact}
 use Rattle.declarations.specs.declared.Known.{Known}
 use Rattle.declarations.specs.Tests.{earlierIn}
-use Rattle.acceptance.specs.declared.Answer.{Answer}
-use Rattle.acceptance.specs.Accepted.{answered}
+use Rattle.answers.specs.declared.Answer.{Answer}
+use Rattle.answers.specs.Answered.{answered}
 use Rattle.parser.proofs.Limits.{predicates-known}
 use Rattle.evaluation.specs.Search.{clausesIn}
 use Rattle.acceptance.specs.Handed.{Handed}

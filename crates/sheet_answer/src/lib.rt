@@ -1,5 +1,5 @@
 // The answer to a sheet from the four searches: 0, or 10 to 13, each at the lowest place that it fits.
-use acceptance::Answer;
+use answers::Answer;
 use declarations::Known;
 use sheet_reader::Fault;
 ghost use mathlib.Core.Path.{_≡_};
@@ -8,7 +8,7 @@ ghost use Rattle.meaning.specs.Cells.{cells};
 ghost use Rattle.meaning.specs.Certificates.{sheetAnswer};
 ghost use Rattle.meaning.specs.Files.{rulesOf};
 ghost use Rattle.meaning.specs.Calls.{predicateArities, statesOf, interpretationOf};
-ghost use Rattle.acceptance.specs.Accepted.{answered};
+ghost use Rattle.answers.specs.Answered.{answered};
 ghost use Rattle.acceptance.specs.Handed.{Handed};
 
 // The answer to a sheet. The marks are zero at first, and of no use afterwards.
@@ -30,15 +30,15 @@ pub fn judge_sheet(
 {
     let m = found.len();
     match sheet_layout::first_misplaced(sheet, preds) {
-        Fault::At(k) => return acceptance::refusal(meaning::SHEET_MISPLACED, k),
+        Fault::At(k) => return answers::refusal(meaning::SHEET_MISPLACED, k),
         Fault::Nowhere => {}
     }
     match sheet_layout::first_difference(sheet, found) {
-        Fault::At(i) => return acceptance::refusal(meaning::SHEET_STATES_DIFFER, i),
+        Fault::At(i) => return answers::refusal(meaning::SHEET_STATES_DIFFER, i),
         Fault::Nowhere => {}
     }
     match sheet_atoms::mark_atoms(sheet, marks, preds, segments, m) {
-        Fault::At(k) => return acceptance::refusal(meaning::SHEET_WRONG_ATOM, k),
+        Fault::At(k) => return answers::refusal(meaning::SHEET_WRONG_ATOM, k),
         Fault::Nowhere => {}
     }
     let counts = known.counts;
@@ -55,7 +55,7 @@ pub fn judge_sheet(
         segments,
         marks,
     ) {
-        Fault::At(c) => acceptance::refusal(meaning::SHEET_NOT_CLOSED, c),
-        Fault::Nowhere => acceptance::no_refusal(),
+        Fault::At(c) => answers::refusal(meaning::SHEET_NOT_CLOSED, c),
+        Fault::Nowhere => answers::no_refusal(),
     }
 }

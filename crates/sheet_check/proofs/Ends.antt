@@ -6,8 +6,8 @@ use Rattle.meaning.proofs.Definitions.{written, Lent, lentEnough, lentAnswer, c
 use Rattle.meaning.specs.Refusals as meant
 use Rattle.meaning.proofs.Lists.{both, cond-yes, cond-no, not-intro}
 use Rattle.meaning.proofs.Answers.{then-first, then-next}
-use Rattle.acceptance.specs.declared.Answer.{Answer}
-use Rattle.acceptance.specs.Accepted.{answered}
+use Rattle.answers.specs.declared.Answer.{Answer}
+use Rattle.answers.specs.Answered.{answered}
 use Rattle.sheet_check.specs.Given.{gave}
 
 -- a part of zeros, with the marks past it

@@ -1,5 +1,5 @@
-// A sheet checked for an accepted file: 9 if a buffer is too short, then 10 to 13, each at the lowest place that it fits.
-use acceptance::Answer;
+// A sheet checked for a rule file, whoever wrote it: 1 to 8 for the file, 9 if a buffer is too short, then 10 to 13, each at the lowest place that it fits.
+use answers::Answer;
 use declarations::Known;
 ghost use Prim.Native.Nat.{_≤_};
 ghost use mathlib.Core.Path.{_≡_};
@@ -11,7 +11,7 @@ ghost use Rattle.meaning.specs.Files.{rulesOf, fileAnswer};
 ghost use Rattle.meaning.specs.Calls.{predicateArities, statesOf, interpretationOf, tablesOf, modelOf, written, checked};
 ghost use Rattle.declarations.specs.Known.{Knows, fieldsRead};
 ghost use Rattle.declarations.specs.Tests.{knownSymbols, knownPredicates};
-ghost use Rattle.acceptance.specs.Accepted.{answered};
+ghost use Rattle.answers.specs.Answered.{answered};
 ghost use Rattle.acceptance.specs.Handed.{Handed};
 ghost use Rattle.sheet_check.specs.Given.{gave};
 
@@ -87,7 +87,7 @@ fn check_sheet(
 }
 
 // Checks a sheet for an accepted file: 9 if a buffer is too short.
-pub fn check_accepted(
+fn check_accepted(
     file: &[u8],
     sheet: &[u8],
     known: Known,
@@ -122,6 +122,22 @@ pub fn check_accepted(
             marks,
         )
     } else {
-        acceptance::refusal(meaning::BUFFER_TOO_SHORT, 0)
+        answers::refusal(meaning::BUFFER_TOO_SHORT, 0)
     }
+}
+
+// Checks a sheet for a file. Nothing is written before 1 to 9 are ruled out.
+pub fn check(file: &[u8], sheet: &[u8], tables: &mut [u8], marks: &mut [u8]) -> Answer
+    ensures { λ r. ⌜ gave r (record { tables = now (tables .exit); marks = now (marks .exit) }) ≡ checked (now (file .entry)) (now (sheet .entry)) (record { tables = now (tables .entry); marks = now (marks .entry) }) ⌝ }
+{
+    let acceptance = acceptance::accept(file);
+    let refusal = acceptance.answer;
+    if refusal.number != 0 {
+        return refusal;
+    }
+    let known = acceptance.known;
+    let found = acceptance.states;
+    let m = states::count_of(found);
+    let sets = found.sets;
+    check_accepted(file, sheet, known, &sets[..m], tables, marks)
 }

@@ -1,3 +1,4 @@
 pub mod Fields
 pub mod Turns
 pub mod Rows
+pub mod Sheets

@@ -10,12 +10,19 @@ ghost use Rattle.meaning.specs.Cells.{rowOf, cells};
 ghost use Rattle.meaning.specs.Certificates.{stateBytes, markedAtoms};
 ghost use Rattle.bytes.specs.Pasted.{pasted, Put};
 ghost use Rattle.sheet_writer.specs.Parts.{atomFields, stateFields, partAtoms};
+ghost use Rattle.sheet_writer.specs.Fits.{sheetOf, ifRoom, fitOf};
+
+// How a sheet fits a buffer: so many bytes are put, or none, since it is too short.
+pub enum Fit {
+    Whole(usize),
+    TooShort,
+}
 
 // The bytes of a field that has a state.
-pub const STATE_FIELD: usize = 5;
+const STATE_FIELD: usize = 5;
 
 // How many bytes the fields of the marked atoms take.
-pub fn atoms_length(marks: &[u8], preds: &[u8], m: usize) -> usize
+fn atoms_length(marks: &[u8], preds: &[u8], m: usize) -> usize
     requires { ⌜ (m ≤ 16) × (length (now preds) ≤ 16) × All (λ n. n ≤ 3) (now preds) × (length (now marks) ≡ cells m (now preds)) ⌝ }
     ensures { λ r. ⌜ r ≡ length (atomFields (markedAtoms m (now (preds .entry)) (now (marks .entry)))) ⌝ }
 {
@@ -48,7 +55,7 @@ fn put_state_field(sheet: &mut [u8], at: usize, state: u16) -> usize
 }
 
 // Puts the fields of the states to the front.
-pub fn put_state_fields(sheet: &mut [u8], states: &[u16]) -> usize
+fn put_state_fields(sheet: &mut [u8], states: &[u16]) -> usize
     requires { ⌜ length (now states) * 5 ≤ length (now sheet) ⌝ }
     ensures { λ r. ⌜ (now (sheet .exit) ≡ pasted (now (sheet .entry)) 0 (stateFields (now (states .entry)))) × (r ≡ length (now (states .entry)) * 5) ⌝ }
 {
@@ -89,7 +96,7 @@ fn put_part(sheet: &mut [u8], from: usize, part: &[u8], m: usize, n: u8, p: u8) 
 }
 
 // Puts the fields of the marked atoms from a position on, a predicate's part after the other.
-pub fn put_atom_fields(sheet: &mut [u8], from: usize, marks: &[u8], preds: &[u8], m: usize) -> usize
+fn put_atom_fields(sheet: &mut [u8], from: usize, marks: &[u8], preds: &[u8], m: usize) -> usize
     requires { ⌜ (1 ≤ m) × (m ≤ 16) × (length (now preds) ≤ 16) × All (λ n. n ≤ 3) (now preds) × (length (now marks) ≡ cells m (now preds)) × (from + length (atomFields (markedAtoms m (now preds) (now marks))) ≤ length (now sheet)) ⌝ }
     ensures { λ r. ⌜ (now (sheet .exit) ≡ pasted (now (sheet .entry)) from (atomFields (markedAtoms m (now (preds .entry)) (now (marks .entry))))) × (r ≡ from + length (atomFields (markedAtoms m (now (preds .entry)) (now (marks .entry))))) ⌝ }
 {
@@ -104,4 +111,19 @@ pub fn put_atom_fields(sheet: &mut [u8], from: usize, marks: &[u8], preds: &[u8]
         p += 1;
     }
     at
+}
+
+// Puts the sheet of states and marked atoms to the front of a buffer that is long enough.
+pub fn put_sheet(sheet: &mut [u8], found: &[u16], marks: &[u8], preds: &[u8]) -> Fit
+    requires { ⌜ (1 ≤ length (now found)) × (length (now found) ≤ 16) × (length (now preds) ≤ 16) × All (λ n. n ≤ 3) (now preds) × (length (now marks) ≡ cells (length (now found)) (now preds)) ⌝ }
+    ensures { λ r. ⌜ (r ≡ fitOf (sheetOf (now (found .entry)) (now (preds .entry)) (now (marks .entry))) (now (sheet .entry))) × (now (sheet .exit) ≡ ifRoom (sheetOf (now (found .entry)) (now (preds .entry)) (now (marks .entry))) (now (sheet .entry))) ⌝ }
+{
+    let m = found.len();
+    let needed = m * STATE_FIELD + atoms_length(marks, preds, m);
+    if sheet.len() < needed {
+        return Fit::TooShort;
+    }
+    let at = put_state_fields(sheet, found);
+    put_atom_fields(sheet, at, marks, preds, m);
+    Fit::Whole(needed)
 }

@@ -7,6 +7,7 @@ use Rattle.meaning.specs.Limits.{symbol, mostOf, mostSymbolArity}
 use Rattle.meaning.specs.Syntax.{Production}
 use Rattle.meaning.specs.Files.{productionOf}
 use Rattle.fields.specs.Found.{contentsFrom}
+use Rattle.automaton.specs.Marking.{AreProductions}
 
 -- symbols within their limits, and sets of types that fit 16 bits
 pub record Limited (arities : List ℕ) (types : ℕ) : Type 0 where
@@ -21,3 +22,8 @@ mostCells = 6144
 -- the productions of so many fields from a position on
 abbrev pub productionsAt : List ℕ → ℕ → ℕ → List Production
 productionsAt file from count = map productionOf (contentsFrom count (drop from file))
+
+-- so many productions from a position on, over such symbols and types
+pub record Determinable (file : List ℕ) (from count : ℕ) (arities : List ℕ) (types : ℕ) : Type 0 where
+  pub limited : Limited arities types
+  pub productions : AreProductions types arities count (contentsFrom count (drop from file))

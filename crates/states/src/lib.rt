@@ -11,9 +11,7 @@ ghost use Rattle.meaning.specs.Cells.{cells};
 ghost use Rattle.meaning.specs.States.{insertRising, insertAll, indexOf, grow, tables};
 ghost use Rattle.meaning.specs.Refusals.{refuseIf};
 ghost use Rattle.meaning.specs.Files.{statesFor};
-ghost use Rattle.fields.specs.Found.{contentsFrom};
-ghost use Rattle.automaton.specs.Marking.{AreProductions};
-ghost use Rattle.states.specs.Asked.{Limited, productionsAt};
+ghost use Rattle.states.specs.Asked.{Determinable, productionsAt};
 ghost use Rattle.states.specs.Packed.{placeFor, putAt, Holds, packed, overfull, countOf, countAnswer, indices};
 
 // The most states.
@@ -139,37 +137,27 @@ fn put_all(sets: [u16; MOST], n: usize, new: &[u16]) -> States
 }
 
 // One turn: all sets that the symbols give over the first n are put among them.
-fn turn(
-    known: [u16; MOST],
-    n: usize,
-    arities: &[u8],
-    types: u8,
-    file: &[u8],
-    from: usize,
-    count: u8,
-) -> States
-    requires { ⌜ Holds known n × Limited (now arities) types ⌝ }
-    requires { ⌜ AreProductions types (now arities) count (contentsFrom count (drop from (now file))) ⌝ }
-    ensures { λ r. ⌜ r ≡ packed (grow (step (productionsAt (now (file .entry)) from count) types) (signature (now (arities .entry))) (take n known)) ⌝ }
+fn turn(known: [u16; MOST], n: usize, arities: &[u8], file: &[u8], from: usize, count: u8) -> States
+    requires { ⌜ Holds known n ⌝ }
+    requires { ⌜ ((types : ℕ) × Determinable (now file) from count (now arities) types) ⌝ }
+    ensures { λ r. ⌜ ((types : ℕ) → Determinable (now (file .entry)) from count (now (arities .entry)) types → r ≡ packed (grow (step (productionsAt (now (file .entry)) from count) types) (signature (now (arities .entry))) (take n known))) ⌝ }
 {
     let mut sets = [0u16; CELLS];
     let states = known;
-    automaton::fill(&mut sets, &states[..n], arities, types, file, from, count);
+    automaton::fill(&mut sets, &states[..n], arities, file, from, count);
     let all = cells::cells_of(arities, n);
     put_all(known, n, &sets[..all])
 }
 
 // The states: turn after turn, until nothing is new or there are more than 16.
-pub fn determinise(file: &[u8], from: usize, count: u8, arities: &[u8], types: u8) -> States
-    requires { ⌜ Limited (now arities) types ⌝ }
-    requires { ⌜ AreProductions types (now arities) count (contentsFrom count (drop from (now file))) ⌝ }
-    ensures states { λ r. ⌜ r ≡ packed (statesFor (now (arities .entry)) types (productionsAt (now (file .entry)) from count)) ⌝ }
-    ensures eight { λ r. ⌜ ((k : ℕ) → countAnswer k (r .count) ≡ refuseIf (ltb mostStates (length (statesFor (now (arities .entry)) types (productionsAt (now (file .entry)) from count)))) 8 k) ⌝ }
+pub fn determinise(file: &[u8], from: usize, count: u8, arities: &[u8]) -> States
+    requires { ⌜ ((types : ℕ) × Determinable (now file) from count (now arities) types) ⌝ }
+    ensures { λ r. ⌜ ((types : ℕ) → Determinable (now (file .entry)) from count (now (arities .entry)) types → (r ≡ packed (statesFor (now (arities .entry)) types (productionsAt (now (file .entry)) from count))) × ((k : ℕ) → countAnswer k (r .count) ≡ refuseIf (ltb mostStates (length (statesFor (now (arities .entry)) types (productionsAt (now (file .entry)) from count)))) 8 k)) ⌝ }
 {
     let mut known = [0u16; MOST];
     let mut n: usize = 0;
     loop {
-        let more = turn(known, n, arities, types, file, from, count);
+        let more = turn(known, n, arities, file, from, count);
         let found = more.count;
         match found {
             Count::Known(k) => {
@@ -216,17 +204,16 @@ pub fn write_tables(
     buffer: &mut [u8],
     states: &[u16],
     arities: &[u8],
-    types: u8,
     file: &[u8],
     from: usize,
     count: u8,
 )
-    requires { ⌜ (length (now states) ≤ mostStates) × (cells (length (now states)) (now arities) ≤ length (now buffer)) × Limited (now arities) types ⌝ }
-    requires { ⌜ AreProductions types (now arities) count (contentsFrom count (drop from (now file))) ⌝ }
-    ensures { λ r. ⌜ now (buffer .exit) ≡ tables (step (productionsAt (now (file .entry)) from count) types) (now (states .entry)) (now (arities .entry)) ++ drop (cells (length (now (states .entry))) (now (arities .entry))) (now (buffer .entry)) ⌝ }
+    requires { ⌜ (length (now states) ≤ mostStates) × (cells (length (now states)) (now arities) ≤ length (now buffer)) ⌝ }
+    requires { ⌜ ((types : ℕ) × Determinable (now file) from count (now arities) types) ⌝ }
+    ensures { λ r. ⌜ ((types : ℕ) → Determinable (now (file .entry)) from count (now (arities .entry)) types → now (buffer .exit) ≡ tables (step (productionsAt (now (file .entry)) from count) types) (now (states .entry)) (now (arities .entry)) ++ drop (cells (length (now (states .entry))) (now (arities .entry))) (now (buffer .entry))) ⌝ }
 {
     let mut sets = [0u16; CELLS];
-    automaton::fill(&mut sets, states, arities, types, file, from, count);
+    automaton::fill(&mut sets, states, arities, file, from, count);
     let all = cells::cells_of(arities, states.len());
     write_indices(buffer, states, &sets[..all]);
 }

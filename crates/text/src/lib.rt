@@ -1,7 +1,6 @@
 // Numbers in decimal put into a buffer from a position on, and how many digits they have.
 ghost use Prim.Native.Nat.{_+_, _%_, _≤_, _<_};
 ghost use mathlib.Core.Path.{_≡_};
-ghost use mathlib.Core.List.{[], _∷_};
 ghost use lib.ListN.{length};
 ghost use Rattle.text.specs.Decimal.{digit, decimal};
 ghost use Rattle.bytes.specs.Pasted.{pasted};

@@ -9,7 +9,7 @@ use Rattle.bytes.specs.Pasted.{Put}
 use Rattle.listing_text.specs.Lines.{refusedLine, refusalText}
 use Rattle.listing_text.specs.Listing.{listing, pieces, piece}
 use Rattle.listing_text.proofs.Pieces.{listing-pieces, pieces-next, listing-refused}
-use Rattle.acceptance.specs.Accepted.{answered}
+use Rattle.answers.specs.Answered.{answered}
 use Rattle.listing_answer.proofs.Texts.{text-is, answer-is, line-text}
 use Rattle.analysis.specs.Given.{given}
 use Rattle.analysis.specs.declared.Analysis.{Analysis}

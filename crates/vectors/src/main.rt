@@ -1,52 +1,18 @@
-// Plays the rule files of data/, each with what stands beside it, and compares: of the folders base and full the listing, of pass the answer to a sheet
-// and the tables, and of made the sheet that is written.
+// Plays the rule files of data/base and data/full, each with its listing beside it, and compares.
 // Prints a line for each difference, and the counts of each folder.
 use declarations::Known;
-use libc::STDOUT_FILENO;
-ghost use Prim.Native.Nat.{_+_, _*_, _≤_, _<_, _-_};
+use folders::Outcome;
+ghost use Prim.Native.Nat.{_+_, _≤_};
 ghost use mathlib.Core.Path.{_≡_};
 ghost use mathlib.Core.Bool.{true, not, _&&_};
 ghost use lib.Dec.{eqb};
-ghost use lib.ListN.{length, getD};
+ghost use lib.ListN.{length};
 ghost use Rattle.meaning.specs.Lists.{same};
-ghost use Rattle.meaning.specs.Fields.{word};
 ghost use Rattle.meaning.specs.Calls.{roundsOf, atomsOf};
 ghost use Rattle.declarations.specs.Known.{Knows, fieldsRead};
 ghost use Rattle.listing_text.specs.Listing.{listing, Results};
 ghost use Rattle.analysis.specs.Given.{Filled};
-ghost use Rattle.vectors.specs.Expected.{standsAt, IsSheet};
-ghost use Rattle.vectors.specs.Paths.{numberedPath};
-
-// What of a file is compared with what stands beside it.
-pub enum Way {
-    // The whole listing.
-    Listing,
-    // The answer to a sheet that is offered, and the tables.
-    Check,
-    // The sheet that is written.
-    Sheet,
-}
-
-// How a file compares with its listing.
-pub enum Outcome {
-    // There is no such file.
-    Missing,
-    Same,
-    Different,
-}
-
-fn print(text: &[u8]) {
-    io::write_all(STDOUT_FILENO, text);
-}
-
-fn print_counts(folder: &[u8], files: usize, differences: usize) {
-    print(folder);
-    print(b": ");
-    io::print_decimal(STDOUT_FILENO, files as u64);
-    print(b" files, ");
-    io::print_decimal(STDOUT_FILENO, differences as u64);
-    print(b" differences\n");
-}
+ghost use Rattle.vectors.specs.Expected.{standsAt};
 
 // Whether some bytes stand in a listing at a place.
 fn stands_at(expected: &[u8], from: usize, bytes: &[u8]) -> bool
@@ -175,7 +141,8 @@ fn is_listing(
     )
 }
 
-// Whether a listing is that of a file; if not, that is printed. The buffers are for 16 states, 24 symbols of arity 2, 8,192 domain atoms and 32 queries.
+// Whether a listing is that of a file; if not, that is printed. The buffers are for 16 states, 24 symbols of arity 2, 8,192 domain atoms and 32
+// queries.
 fn compare_listing(path: &[u8], file: &[u8], expected: &[u8]) -> bool
     ensures { λ r. ⌜ (r ≡ true → now (expected .entry) ≡ listing (now (file .entry))) ⌝ }
 {
@@ -196,163 +163,42 @@ fn compare_listing(path: &[u8], file: &[u8], expected: &[u8]) -> bool
     if is {
         return true;
     }
-    print(path);
-    print(b": other listing\n");
+    folders::print_about(path, b"other listing");
     false
 }
 
-// Two bytes as a number, high byte first.
-fn word_at(s: &[u8], at: usize) -> usize
-    requires { ⌜ at + 2 ≤ length (now s) ⌝ }
-    ensures { λ r. ⌜ (r ≡ word (getD (now (s .entry)) at 0) (getD (now (s .entry)) (at + 1) 0)) × (r < 65536) ⌝ }
-{
-    bytes::wide(s[at]) * 256 + bytes::wide(s[at + 1])
-}
-
-// Whether a file's tables are in a buffer, and a sheet for it is answered as expected. What is expected stands before the sheet: the answer's number, its
-// place in two bytes, how many table cells there are in two, and these.
-fn is_checked(file: &[u8], expected: &[u8], tables: &mut [u8], marks: &mut [u8]) -> bool {
-    if expected.len() < 5 {
-        return false;
-    }
-    let size = word_at(expected, 3);
-    let from = 5 + size;
-    if expected.len() < from {
-        return false;
-    }
-    if tables.len() < size {
-        return false;
-    }
-    let answer = certificate::check(file, &expected[from..], tables, marks);
-    if answer.number != bytes::wide(expected[0]) {
-        return false;
-    }
-    if answer.place != word_at(expected, 1) {
-        return false;
-    }
-    bytes::same(&tables[..size], &expected[5..from])
-}
-
-// Whether a sheet is answered, and the tables written, as expected; if not, that is printed.
-fn compare_check(path: &[u8], file: &[u8], expected: &[u8]) -> bool {
-    let mut tables = [0u8; 6144];
-    let mut marks = [0u8; 8192];
-    if is_checked(file, expected, &mut tables, &mut marks) {
-        return true;
-    }
-    print(path);
-    print(b": other answer to the sheet, or other tables\n");
-    false
-}
-
-// Whether some bytes are the sheet that is written for a file, in the lent buffers.
-fn is_sheet(
-    file: &[u8],
-    expected: &[u8],
-    states: &mut [u16],
-    tables: &mut [u8],
-    marks: &mut [u8],
-    verdicts: &mut [u8],
-    sheet: &mut [u8],
-) -> bool
-    ensures { λ r. ⌜ (r ≡ true → IsSheet (now (file .entry)) (now (expected .entry))) ⌝ }
-{
-    let r = certificate::write(file, states, tables, marks, verdicts, sheet);
-    let answer = r.answer;
-    if answer.number != 0 {
-        return false;
-    }
-    let n = r.bytes;
-    bytes::same(&sheet[..n], expected)
-}
-
-// Whether some bytes are the sheet that is written for a file; if not, that is printed.
-fn compare_sheet(path: &[u8], file: &[u8], expected: &[u8]) -> bool
-    ensures { λ r. ⌜ (r ≡ true → IsSheet (now (file .entry)) (now (expected .entry))) ⌝ }
-{
-    let mut states = [0u16; 16];
-    let mut tables = [0u8; 6144];
-    let mut marks = [0u8; 8192];
-    let mut verdicts = [0u8; 32];
-    let mut sheet = [0u8; 8192];
-    let is = is_sheet(
-        file,
-        expected,
-        &mut states,
-        &mut tables,
-        &mut marks,
-        &mut verdicts,
-        &mut sheet,
-    );
-    if is {
-        return true;
-    }
-    print(path);
-    print(b": other sheet\n");
-    false
-}
-
-// By one of the ways.
-fn compare_by(way: Way, path: &[u8], file: &[u8], beside: &[u8]) -> bool {
-    match way {
-        Way::Listing => compare_listing(path, file, beside),
-        Way::Check => compare_check(path, file, beside),
-        Way::Sheet => compare_sheet(path, file, beside),
-    }
-}
-
-// A rule file and what stands beside it, by their paths. Of a longer file than the buffer holds the start is refused as the whole is; what stands
-// beside it must leave a byte of the buffer, so that all of it was read.
-fn play_file(rules: &[u8], beside: &[u8], way: Way) -> Outcome {
-    let fd = os::open_read(rules);
-    if fd < 0 {
+// A rule file and what stands beside it, by their paths. Of a longer file than the buffer holds the start is refused as the whole is.
+fn play_file(rules: &[u8], beside: &[u8]) -> Outcome {
+    let mut file = io::large_buffer();
+    let read = folders::read_file(rules, &mut file);
+    if !read.found {
         return Outcome::Missing;
     }
-    let mut file = io::large_buffer();
-    let n = io::read_full(fd, &mut file);
-    libc::close(fd);
-    let other = os::open_read(beside);
-    if other < 0 {
-        print(beside);
-        print(b": missing\n");
-        return Outcome::Different;
-    }
     let mut text = [0u8; 8192];
-    let m = io::read_full(other, &mut text);
-    libc::close(other);
-    if m == 8192 {
-        print(beside);
-        print(b": too long\n");
+    let other = folders::read_beside(beside, &mut text);
+    if !other.found {
         return Outcome::Different;
     }
-    if compare_by(way, rules, &file[..n], &text[..m]) {
+    let n = read.bytes;
+    let m = other.bytes;
+    if compare_listing(rules, &file[..n], &text[..m]) {
         return Outcome::Same;
     }
     Outcome::Different
 }
 
-// The path of file k, by its three digits, which stand after a folder of four letters.
-fn put_digits(path: &mut [u8], k: usize)
-    requires { ⌜ (8 ≤ length (now path)) × (k < 1000) ⌝ }
-    ensures { λ _. ⌜ now (path .exit) ≡ numberedPath (now (path .entry)) k ⌝ }
-{
-    path[5] = (48 + k / 100) as u8;
-    path[6] = (48 + k / 10 % 10) as u8;
-    path[7] = (48 + k % 10) as u8;
-}
-
 // The files of a folder, from 000 to the first that is missing.
-fn play(folder: &[u8], rules: &mut [u8], listing: &mut [u8], way: Way)
-    requires { ⌜ (8 ≤ length (now rules)) × (8 ≤ length (now listing)) ⌝ }
+fn play(folder: &[u8], rules: &mut [u8], beside: &mut [u8])
+    requires { ⌜ (8 ≤ length (now rules)) × (8 ≤ length (now beside)) ⌝ }
 {
     let mut files: usize = 0;
     let mut differences: usize = 0;
     while files < 1000 {
-        put_digits(rules, files);
-        put_digits(listing, files);
-        match play_file(rules, listing, way) {
+        folders::put_digits(rules, files);
+        folders::put_digits(beside, files);
+        match play_file(rules, beside) {
             Outcome::Missing => {
-                print_counts(folder, files, differences);
+                folders::print_counts(folder, files, differences);
                 return;
             }
             Outcome::Same => {
@@ -364,36 +210,22 @@ fn play(folder: &[u8], rules: &mut [u8], listing: &mut [u8], way: Way)
             }
         }
     }
-    print_counts(folder, files, differences);
+    folders::print_counts(folder, files, differences);
 }
 
 fn play_base() {
     let mut rules = *b"base/000.rules";
     let mut beside = *b"base/000.listing";
-    play(b"base", &mut rules, &mut beside, Way::Listing);
+    play(b"base", &mut rules, &mut beside);
 }
 
 fn play_full() {
     let mut rules = *b"full/000.rules";
     let mut beside = *b"full/000.listing";
-    play(b"full", &mut rules, &mut beside, Way::Listing);
-}
-
-fn play_pass() {
-    let mut rules = *b"pass/000.rules";
-    let mut beside = *b"pass/000.check";
-    play(b"pass", &mut rules, &mut beside, Way::Check);
-}
-
-fn play_made() {
-    let mut rules = *b"made/000.rules";
-    let mut beside = *b"made/000.sheet";
-    play(b"made", &mut rules, &mut beside, Way::Sheet);
+    play(b"full", &mut rules, &mut beside);
 }
 
 fn main() {
     play_base();
     play_full();
-    play_pass();
-    play_made();
 }

@@ -46,10 +46,15 @@ fn open(accepted: &Accepted, model: &[u8], Query { conditions, atom }: &Query) -
 
 #[test]
 fn every_giving() {
-    let data = Path::new(env!("CARGO_MANIFEST_DIR")).join("../../../crates/vectors/data");
+    let crates = Path::new(env!("CARGO_MANIFEST_DIR")).join("../../../crates");
     let mut played = 0;
-    for folder in ["base", "full", "made", "pass"] {
-        for entry in fs::read_dir(data.join(folder)).expect("a folder of vectors") {
+    for folder in [
+        "vectors/data/base",
+        "vectors/data/full",
+        "sheet_vectors/data/made",
+        "sheet_vectors/data/pass",
+    ] {
+        for entry in fs::read_dir(crates.join(folder)).expect("a folder of vectors") {
             let path = entry.expect("an entry").path();
             if path.extension().is_none_or(|end| end != "rules") {
                 continue;

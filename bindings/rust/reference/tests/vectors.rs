@@ -1,5 +1,5 @@
-//! Plays the vectors of the repository, `crates/vectors/data`; their formats are in
-//! `crates/vectors/README.md`.
+//! Plays the vectors of the repository, in `data` of `crates/vectors` and `crates/sheet_vectors`;
+//! their formats are in the `README.md` of each.
 
 use reference::{check, listing, write, Answer, Buffers};
 use std::fs;
@@ -7,7 +7,7 @@ use std::path::{Path, PathBuf};
 
 fn data(folder: &str) -> PathBuf {
     Path::new(env!("CARGO_MANIFEST_DIR"))
-        .join("../../../crates/vectors/data")
+        .join("../../../crates")
         .join(folder)
 }
 
@@ -32,7 +32,7 @@ fn pairs(folder: &str, other: &str) -> Vec<(String, Vec<u8>, Vec<u8>)> {
 
 #[test]
 fn listings() {
-    for folder in ["base", "full"] {
+    for folder in ["vectors/data/base", "vectors/data/full"] {
         for (name, rules, text) in pairs(folder, "listing") {
             assert_eq!(listing(&rules).as_bytes(), text, "{name}");
         }
@@ -41,7 +41,7 @@ fn listings() {
 
 #[test]
 fn written_sheets() {
-    for (name, rules, expected) in pairs("made", "sheet") {
+    for (name, rules, expected) in pairs("sheet_vectors/data/made", "sheet") {
         let mut sheet = vec![0; 1 << 20];
         let buffers = Buffers {
             states: &mut [0; 16],
@@ -57,7 +57,7 @@ fn written_sheets() {
 
 #[test]
 fn checked_sheets() {
-    for (name, rules, expected) in pairs("pass", "check") {
+    for (name, rules, expected) in pairs("sheet_vectors/data/pass", "check") {
         let two = |at: usize| u16::from_be_bytes([expected[at], expected[at + 1]]).into();
         let due = Answer {
             number: expected[0].into(),

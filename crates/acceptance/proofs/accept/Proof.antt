@@ -25,9 +25,6 @@ returns c =
     let h = not-read (c .before) in
     (c .before .before .before .answer-of .ensures ∙ c .before .before .before .before .before .read .ensures .0 ∙ refused-answer file h, c .before .before .before .before .before .read .ensures .1, c .no-states .ensures ∙ refused-states file h)
 
-states-of-requires : tie.Need-states-of-requires
-states-of-requires c κs = (is-read c, c .before .before .before .before .read .ensures .1)
-
 returns-2 : tie.Need-returns-2
 returns-2 c =
     let file = c .before .before .before .before .before .before .before .before .before .args .file .now in
@@ -42,5 +39,5 @@ returns-2 c =
 
 pub accept-spec : {M : Type 1} → statement M
 accept-spec =
-    tie.close
-    (tie.spec (λ c κs. search needs) (λ c κs. search needs) (λ c κs. search needs) returns states-of-requires (λ c κs. search needs) (λ c κs. search needs) returns-2)
+    tie.close (tie.spec (λ c κs. search needs) (λ c κs. search needs) (λ c κs. search needs) returns
+    (λ c κs. (is-read c, c .before .before .before .before .read .ensures .1)) (λ c κs. search needs) (λ c κs. search needs) returns-2)

@@ -1,12 +1,11 @@
 -- `acceptance::states_of` meets its contract: what is known of the file is what determinising asks for. Assumes nothing.
 use Rattle.meaning.proofs.Prelude.{ℕ, sym, ap, _∙_, subst, getD, length-take, take, arith, needs}
 use Rattle.meaning.specs.Files.{statesFor}
-use Rattle.automaton.specs.Marking.{AreProductions}
-use Rattle.states.specs.Asked.{Limited, productionsAt}
+use Rattle.states.specs.Asked.{Determinable, productionsAt}
 use Rattle.states.specs.Packed.{packed}
 use Rattle.states.proofs.Packed.{packed-answer}
-use Rattle.declarations.specs.Tests.{earlierIn}
-use Rattle.acceptance.proofs.Ready.{symbols-fit, limited, productions, states-are}
+use Rattle.declarations.specs.Tests.{knownTypes}
+use Rattle.acceptance.proofs.Ready.{symbols-fit, determinable, states-are}
 use Rattle.acceptance.proofs.states_of.Statement.{statement}
 use Rattle.acceptance.proofs.states_of.Tie as tie
 
@@ -20,15 +19,21 @@ slice-aggregate-determinise c =
     let x = c .before .before .before .before .before .before in
     omega (arith, c .before .wide .ensures .0, length-take (c .before .wide .result) (x .args .known .symbols), symbols-fit (x .args .file .now) (x .args .known) (x .pre .0) (x .pre .1))
 
-determinise-requires : tie.Need-determinise-requires
-determinise-requires c κs =
-    let x = c .before .before .before .before .before .before in
+-- what determinising asks, by the symbols that are lent
+given :
+    (c : tie.After-wide)
+    → Determinable
+    (c .before .before .before .before .before .args .file .now)
+    (getD (c .before .before .before .before .before .args .known .starts) 3 0)
+    (getD (c .before .before .before .before .before .args .known .counts) 3 0)
+    (take (c .wide .result) (c .before .before .before .before .before .args .known .symbols))
+    (knownTypes (c .before .before .before .before .before .args .known))
+given c =
+    let x = c .before .before .before .before .before in
     let file = x .args .file .now in
     let known = x .args .known in
-    subst
-    (λ (n : ℕ). Limited (take n (known .symbols)) (getD (known .counts) 2 0) × AreProductions (getD (known .counts) 2 0) (take n (known .symbols)) (getD (known .counts) 3 0) (earlierIn file known 3))
-    (sym (c .before .wide .ensures .0))
-    (limited file known (x .pre .0) (x .pre .1), productions file known (x .pre .0) (x .pre .1))
+    subst (λ (n : ℕ). Determinable file (getD (known .starts) 3 0) (getD (known .counts) 3 0) (take n (known .symbols)) (knownTypes known)) (sym (c .wide .ensures .0))
+    (determinable file known (x .pre .0) (x .pre .1))
 
 returns : tie.Need-returns
 returns c =
@@ -36,9 +41,9 @@ returns c =
     let file = x .args .file .now in
     let known = x .args .known in
     let e =
-    c .determinise .ensures .0
+    c .determinise .ensures (knownTypes known) (given (c .before .before)) .0
     ∙ ap packed
-    (ap (λ (n : ℕ). statesFor (take n (known .symbols)) (getD (known .counts) 2 0) (productionsAt file (getD (known .starts) 3 0) (getD (known .counts) 3 0))) (c .before .before .wide .ensures .0)
+    (ap (λ (n : ℕ). statesFor (take n (known .symbols)) (knownTypes known) (productionsAt file (getD (known .starts) 3 0) (getD (known .counts) 3 0))) (c .before .before .wide .ensures .0)
     ∙ states-are file known (x .pre .0) (x .pre .1))
     in
     (e, packed-answer _ e)
@@ -46,4 +51,4 @@ returns c =
 pub states-of-spec : {M : Type 1} → statement M
 states-of-spec =
     tie.close (tie.spec (λ c. search needs) (λ c κs. search needs) (λ c. search needs) (λ c. search needs) array-share-prefix-symbols
-    slice-aggregate-determinise (λ c. search needs) determinise-requires returns)
+    slice-aggregate-determinise (λ c κs. (_, given (c .before))) returns)

@@ -1,6 +1,6 @@
 -- `automaton::fill` meets its contract. The loop's invariant: the productions left, marked in the buffer as it is, give what all of them give in the
 -- emptied buffer; the measure is how many are left. Assumes nothing.
-use Rattle.meaning.proofs.Prelude.{_≡_, refl, _∙_, length, drop, arith, needs}
+use Rattle.meaning.proofs.Prelude.{ℕ, _≤_, _≡_, refl, _∙_, length, drop, arith, needs}
 use Rattle.fields.specs.Found.{contentsFrom}
 use Rattle.automaton.specs.Marking.{AreProductions}
 use Rattle.automaton.proofs.Turns.{fillable-same, length-markProduction, markFrom, never-cut, never-end, field-inside, first-long, first-well, rest-are, from-next}
@@ -9,19 +9,19 @@ use Rattle.automaton.proofs.fill.Statement.{statement}
 use Rattle.automaton.proofs.fill.Tie as tie
 
 abbrev Inv-loop : tie.InvT-loop
-Inv-loop sets₀ states arities types file from count at₀ left₀ sets at left =
+Inv-loop sets₀ states arities file from count at₀ left₀ sets at left =
     (length sets ≡ length sets₀)
-    × AreProductions types arities left (contentsFrom left (drop at file))
+    × ((types : ℕ) × (types ≤ 16) × AreProductions types arities left (contentsFrom left (drop at file)))
     × (markFrom states arities file left at sets ≡ markFrom states arities file count from sets₀)
 
 abbrev μ-loop : tie.MeasureT-loop
-μ-loop sets₀ states arities types file from count at₀ left₀ sets at left = left
+μ-loop sets₀ states arities file from count at₀ left₀ sets at left = left
 
 cells-of-requires : tie.Need-cells-of-requires Inv-loop μ-loop
-cells-of-requires c κs = let p = c .before .before .before .before .before .pre .0 .0 in (p .few, p .symbols, p .small)
+cells-of-requires c κs = let p = c .before .before .before .before .before .pre .0 in (p .few, p .symbols, p .small)
 
 empty-sets-requires : tie.Need-empty-sets-requires Inv-loop μ-loop
-empty-sets-requires c κs = omega (arith, c .before .before .before .before .before .before .pre .0 .0 .room, c .cells-of .ensures)
+empty-sets-requires c κs = omega (arith, c .before .before .before .before .before .before .pre .0 .room, c .cells-of .ensures)
 
 loop-holds : tie.Need-loop-holds Inv-loop μ-loop
 loop-holds c = (refl, c .before .before .before .before .before .before .before .before .before .pre .1, refl)
@@ -33,7 +33,7 @@ content-requires c κs =
     let loop = turn .before .loop in
     let start = turn .before .before .before .before .before .before .before .before .before .before .before in
     let a = start .args in
-    field-inside (a .file .now) (loop .at) (omega arith) (loop .inv .1) (told .before .before .field-at .ensures) (told .len .given .1)
+    field-inside (a .file .now) (loop .at) (omega arith) (loop .inv .1 .2) (told .before .before .field-at .ensures) (told .len .given .1)
 
 mark-production-requires : tie.Need-mark-production-requires Inv-loop μ-loop
 mark-production-requires c κs =
@@ -43,9 +43,9 @@ mark-production-requires c κs =
     let begun = turn .before .before .before .before in
     let start = begun .before .before .before .before .before .before .before in
     let a = start .args in (
-      fillable-same (start .pre .0 .0) (loop .inv .0 ∙ length-begun (a .states .now) (a .arities .now) (a .sets .now) (start .pre .0 .0) (begun .before .cells-of .ensures) (begun .empty-sets .ensures)),
-      first-long (a .file .now) (loop .at) (omega arith) (loop .inv .1) (told .before .before .field-at .ensures) (told .len .given .1) (c .before .content .ensures .0),
-      first-well (a .file .now) (loop .at) (omega arith) (loop .inv .1) (told .before .before .field-at .ensures) (told .len .given .1) (c .before .content .ensures .0) (start .pre .0 .1),
+      fillable-same (start .pre .0) (loop .inv .0 ∙ length-begun (a .states .now) (a .arities .now) (a .sets .now) (start .pre .0) (begun .before .cells-of .ensures) (begun .empty-sets .ensures)),
+      first-long (a .file .now) (loop .at) (omega arith) (loop .inv .1 .2) (told .before .before .field-at .ensures) (told .len .given .1) (c .before .content .ensures .0),
+      first-well (a .file .now) (loop .at) (omega arith) (loop .inv .1 .2) (told .before .before .field-at .ensures) (told .len .given .1) (c .before .content .ensures .0) (loop .inv .1 .1),
     )
 
 add-at : tie.Need-add-at Inv-loop μ-loop
@@ -55,7 +55,7 @@ add-at c =
     let loop = turn .before .loop in
     let start = turn .before .before .before .before .before .before .before .before .before .before .before in
     let a = start .args in
-    omega (arith, field-inside (a .file .now) (loop .at) (omega arith) (loop .inv .1) (told .before .before .field-at .ensures) (told .len .given .1))
+    omega (arith, field-inside (a .file .now) (loop .at) (omega arith) (loop .inv .1 .2) (told .before .before .field-at .ensures) (told .len .given .1))
 
 add-at-2 : tie.Need-add-at-2 Inv-loop μ-loop
 add-at-2 c =
@@ -64,7 +64,7 @@ add-at-2 c =
     let loop = turn .before .loop in
     let start = turn .before .before .before .before .before .before .before .before .before .before .before in
     let a = start .args in
-    omega (arith, field-inside (a .file .now) (loop .at) (omega arith) (loop .inv .1) (told .before .before .field-at .ensures) (told .len .given .1))
+    omega (arith, field-inside (a .file .now) (loop .at) (omega arith) (loop .inv .1 .2) (told .before .before .field-at .ensures) (told .len .given .1))
 
 loop-again : tie.Need-loop-again Inv-loop μ-loop
 loop-again c =
@@ -75,8 +75,8 @@ loop-again c =
     let a = start .args in
     let marked = c .before .before .mark-production .ensures in (
       length-markProduction (a .states .now) (a .arities .now) _ (loop .sets) marked ∙ loop .inv .0,
-      rest-are (a .file .now) (loop .at) (omega arith) (loop .inv .1) (told .before .before .field-at .ensures) (told .len .given .1) (c .before .before .before .before .content .ensures .0),
-      from-next (a .file .now) (loop .at) (omega arith) (loop .inv .1) (told .before .before .field-at .ensures) (told .len .given .1) (c .before .before .before .before .content .ensures .0) (a .states .now) (loop .sets) marked ∙ loop .inv .2,
+      (loop .inv .1 .0, loop .inv .1 .1, rest-are (a .file .now) (loop .at) (omega arith) (loop .inv .1 .2) (told .before .before .field-at .ensures) (told .len .given .1) (c .before .before .before .before .content .ensures .0)),
+      from-next (a .file .now) (loop .at) (omega arith) (loop .inv .1 .2) (told .before .before .field-at .ensures) (told .len .given .1) (c .before .before .before .before .content .ensures .0) (a .states .now) (loop .sets) marked ∙ loop .inv .2,
     )
 
 same-length : tie.Need-same-length Inv-loop μ-loop
@@ -85,7 +85,7 @@ same-length c =
     let begun = c .before .before .before .before .before .before .before in
     let start = begun .before .before .before .before .before .before .before in
     let a = start .args in
-    loop .inv .0 ∙ length-begun (a .states .now) (a .arities .now) (a .sets .now) (start .pre .0 .0) (begun .before .cells-of .ensures) (begun .empty-sets .ensures)
+    loop .inv .0 ∙ length-begun (a .states .now) (a .arities .now) (a .sets .now) (start .pre .0) (begun .before .cells-of .ensures) (begun .empty-sets .ensures)
 
 returns : tie.Need-returns Inv-loop μ-loop
 returns c =
@@ -93,7 +93,7 @@ returns c =
     let loop = turn .before .loop in
     let start = turn .before .before .before .before .before .before .before .before .before .before .before in
     let a = start .args in
-    absurd (never-cut (a .file .now) (loop .at) (omega arith) (loop .inv .1) (c .before .before .field-at .ensures) (c .enum-told .given .1))
+    absurd (never-cut (a .file .now) (loop .at) (omega arith) (loop .inv .1 .2) (c .before .before .field-at .ensures) (c .enum-told .given .1))
 
 same-length-2 : tie.Need-same-length-2 Inv-loop μ-loop
 same-length-2 c =
@@ -101,7 +101,7 @@ same-length-2 c =
     let begun = c .before .before .before .before .before .before .before in
     let start = begun .before .before .before .before .before .before .before in
     let a = start .args in
-    loop .inv .0 ∙ length-begun (a .states .now) (a .arities .now) (a .sets .now) (start .pre .0 .0) (begun .before .cells-of .ensures) (begun .empty-sets .ensures)
+    loop .inv .0 ∙ length-begun (a .states .now) (a .arities .now) (a .sets .now) (start .pre .0) (begun .before .cells-of .ensures) (begun .empty-sets .ensures)
 
 returns-2 : tie.Need-returns-2 Inv-loop μ-loop
 returns-2 c =
@@ -109,7 +109,7 @@ returns-2 c =
     let loop = turn .before .loop in
     let start = turn .before .before .before .before .before .before .before .before .before .before .before in
     let a = start .args in
-    absurd (never-end (a .file .now) (loop .at) (omega arith) (loop .inv .1) (c .before .before .field-at .ensures) (c .enum-told2 .given .1))
+    absurd (never-end (a .file .now) (loop .at) (omega arith) (loop .inv .1 .2) (c .before .before .field-at .ensures) (c .enum-told2 .given .1))
 
 same-length-3 : tie.Need-same-length-3 Inv-loop μ-loop
 same-length-3 c =
@@ -117,15 +117,15 @@ same-length-3 c =
     let begun = c .before .before .before .before in
     let start = begun .before .before .before .before .before .before .before in
     let a = start .args in
-    loop .inv .0 ∙ length-begun (a .states .now) (a .arities .now) (a .sets .now) (start .pre .0 .0) (begun .before .cells-of .ensures) (begun .empty-sets .ensures)
+    loop .inv .0 ∙ length-begun (a .states .now) (a .arities .now) (a .sets .now) (start .pre .0) (begun .before .cells-of .ensures) (begun .empty-sets .ensures)
 
 returns-3 : tie.Need-returns-3 Inv-loop μ-loop
-returns-3 c =
+returns-3 c types low are =
     let loop = c .before .loop in
     let begun = c .before .before .before .before in
     let start = begun .before .before .before .before .before .before .before in
     let a = start .args in
-    filled (a .states .now) (a .arities .now) (a .sets .now) (start .pre .0 .0) (begun .before .cells-of .ensures) (begun .empty-sets .ensures) (a .file .now) (a .types) (a .from) (a .count) (loop .left) (loop .at) (start .pre .0 .1) (start .pre .1) (c .loop-test .left) (loop .inv .2)
+    filled (a .states .now) (a .arities .now) (a .sets .now) (start .pre .0) (begun .before .cells-of .ensures) (begun .empty-sets .ensures) (a .file .now) types (a .from) (a .count) (loop .left) (loop .at) low are (c .loop-test .left) (loop .inv .2)
 
 pub fill-spec : {M : Type 1} → statement M
 fill-spec =

@@ -1,6 +1,7 @@
 -- `certificate::write_accepted` meets its contract, with the atoms in the order of their cells. Assumes nothing.
-use Rattle.meaning.proofs.Prelude.{arith, needs}
-use Rattle.certificate.proofs.Ends.{analysis-refused, sheet-short, done}
+use Rattle.meaning.proofs.Prelude.{refl, arith, needs}
+use Rattle.sheet_writer.proofs.Sheets.{fit-whole, fit-short}
+use Rattle.certificate.proofs.Ends.{sheetFor, analysis-refused, sheet-short, done}
 use Rattle.certificate.proofs.Ready.{Ready, arities-fit, arities-long, cells-asked, marks-fit, marks-long, sheet-asked, put-is}
 use Rattle.certificate.proofs.write_accepted.Statement.{statement}
 use Rattle.certificate.proofs.write_accepted.Tie as tie
@@ -17,15 +18,6 @@ returns c =
     let x = c .before .before .before .before .before .before .before .before .before .before .before .before .before .before .before .before .before .before .before .before .before .before .before .before in
     let y = c .before .before .before .before .before .before .before .before .before .before .before .before .analyse-accepted in
     analysis-refused (x .args .file .now) (record { states = x .args .states .now; tables = x .args .tables .now; marks = x .args .marks .now; verdicts = x .args .verdicts .now }) (x .args .sheet .now) {after = record { states = y .last .1 .1 .1 .0; tables = y .last .1 .1 .1 .1 .0; marks = y .last .1 .1 .1 .1 .1 .0; verdicts = y .last .1 .1 .1 .1 .1 .1 .0 }} (c .refused-writing .ensures) (y .ensures) (λ z. absurd (omega (arith, z)))
-
-array-share-prefix-predicates : tie.Need-array-share-prefix-predicates
-array-share-prefix-predicates c = arities-fit (ready (c .before .before .before)) (c .wide .ensures .0)
-
-slice-aggregate-cells-of : tie.Need-slice-aggregate-cells-of
-slice-aggregate-cells-of c = arities-long (ready (c .before .before .before .before)) (c .before .wide .ensures .0)
-
-cells-of-requires : tie.Need-cells-of-requires
-cells-of-requires c κs = cells-asked (ready (c .before .before .before .before)) (c .before .wide .ensures .0)
 
 slice-reshare-prefix-put-sheet : tie.Need-slice-reshare-prefix-put-sheet
 slice-reshare-prefix-put-sheet c = marks-fit (ready (c .before .before .before .before .before .before)) (c .before .before .before .wide .ensures .0) (c .before .cells-of .ensures)
@@ -47,19 +39,23 @@ returns-2 c =
     let x = c .before .before .before .before .before .before .before .before .before .before .before .before .before .before .before .before .before .before .before .before .before .before .before .before .before .before .before .before .before .before .before .before .before .before .before .before .before in
     let h = ready (c .before .before .before .before .before .before .before .before .before .before .before .before .before .before) in
     let put = put-is h (c .before .before .before .before .before .before .before .before .before .before .before .wide .ensures .0) (c .before .before .before .before .before .before .before .before .before .cells-of .ensures) (x .args .sheet .now) (c .before .before .before .before .before .put-sheet .ensures) in
-    sheet-short (x .args .file .now) (record { states = x .args .states .now; tables = x .args .tables .now; marks = x .args .marks .now; verdicts = x .args .verdicts .now }) (x .args .sheet .now) (h .is) (h .zero) (put .0) (put .1) (c .refused-writing2 .ensures) (c .before .refusal .ensures) (omega arith)
+    let whole = fit-whole (sheetFor (x .args .file .now)) (x .args .sheet .now) (put .0) (c .before .n .given .1) in
+    done (x .args .file .now) (record { states = x .args .states .now; tables = x .args .tables .now; marks = x .args .marks .now; verdicts = x .args .verdicts .now }) (x .args .sheet .now) (h .is) (h .zero) (whole .0) (put .1) (omega (arith, whole))
 
 returns-3 : tie.Need-returns-3
 returns-3 c =
-    let x = c .before .before .before .before .before .before .before .before .before .before .before .before .before .before .before .before .before .before .before .before .before .before .before .before .before .before .before .before .before .before .before .before .before .before .before in
-    let h = ready (c .before .before .before .before .before .before .before .before .before .before .before .before) in
-    let put = put-is h (c .before .before .before .before .before .before .before .before .before .wide .ensures .0) (c .before .before .before .before .before .before .before .cells-of .ensures) (x .args .sheet .now) (c .before .before .before .put-sheet .ensures) in
-    done (x .args .file .now) (record { states = x .args .states .now; tables = x .args .tables .now; marks = x .args .marks .now; verdicts = x .args .verdicts .now }) (x .args .sheet .now) (h .is) (h .zero) (put .0) (put .1) (omega arith)
+    let x = c .before .before .before .before .before .before .before .before .before .before .before .before .before .before .before .before .before .before .before .before .before .before .before .before .before .before .before .before .before .before .before .before .before .before .before .before .before .before in
+    let h = ready (c .before .before .before .before .before .before .before .before .before .before .before .before .before .before .before) in
+    let put = put-is h (c .before .before .before .before .before .before .before .before .before .before .before .before .wide .ensures .0) (c .before .before .before .before .before .before .before .before .before .before .cells-of .ensures) (x .args .sheet .now) (c .before .before .before .before .before .before .put-sheet .ensures) in
+    let short = fit-short (sheetFor (x .args .file .now)) (x .args .sheet .now) (put .0) (c .before .before .enum-told .given .1) in
+    sheet-short (x .args .file .now) (record { states = x .args .states .now; tables = x .args .tables .now; marks = x .args .marks .now; verdicts = x .args .verdicts .now }) (x .args .sheet .now) (h .is) (h .zero) refl (put .1) (c .refused-writing2 .ensures) (c .before .refusal .ensures) short
 
 pub write-accepted-spec : {M : Type 1} → statement M
 write-accepted-spec =
     tie.close (tie.spec (λ c κs. search needs) (λ c κs. search needs) (λ c. search needs) (λ c. search needs) (λ c. search needs) (λ c. search needs)
-    returns (λ c. search needs) (λ c κs. search needs) array-share-prefix-predicates slice-aggregate-cells-of cells-of-requires
-    slice-reshare-prefix-put-sheet slice-aggregate-put-sheet array-share-prefix-predicates-2 slice-aggregate-put-sheet-2 put-sheet-requires
+    returns (λ c. search needs) (λ c κs. search needs) (λ c. arities-fit (ready (c .before .before .before)) (c .wide .ensures .0))
+    (λ c. arities-long (ready (c .before .before .before .before)) (c .before .wide .ensures .0))
+    (λ c κs. cells-asked (ready (c .before .before .before .before)) (c .before .wide .ensures .0)) slice-reshare-prefix-put-sheet
+    slice-aggregate-put-sheet array-share-prefix-predicates-2 slice-aggregate-put-sheet-2 put-sheet-requires (λ c. search needs) (λ c. search needs)
     (λ c κs. search needs) (λ c κs. search needs) (λ c. search needs) (λ c. search needs) (λ c. search needs) (λ c. search needs) (λ c. search needs)
     returns-2 (λ c. search needs) (λ c. search needs) (λ c. search needs) (λ c. search needs) (λ c. search needs) returns-3)

@@ -3,7 +3,7 @@ use Rattle.meaning.proofs.Prelude.{ℕ, sym, ap, _∙_, subst, List, arith, nee
 use Rattle.meaning.specs.Calls.{Buffers}
 use Rattle.bytes.specs.Pasted.{Put}
 use Rattle.listing_text.specs.Lines.{refusalText}
-use Rattle.acceptance.specs.Accepted.{answered}
+use Rattle.answers.specs.Answered.{answered}
 use Rattle.listing_answer.proofs.Texts.{answer-is, no-text, line-text, put-nothing}
 use Rattle.listing_answer.proofs.answer.Statement.{statement}
 use Rattle.listing_answer.proofs.answer.Tie as tie

@@ -14,9 +14,8 @@ abbrev μ-loop : tie.MeasureT-loop
 
 loop-again : tie.Need-loop-again Inv-loop μ-loop
 loop-again c =
-    let a = c .before .before .args in
     let loop = c .before .loop in
-    (search needs, length-set (loop .more) (loop .j) (loop .next) ∙ loop .inv .1, put-next (loop .more) (loop .j) (a .n) (loop .next) (search needs) (search needs) ∙ loop .inv .2)
+    (search needs, length-set (loop .more) (loop .j) (loop .next) ∙ loop .inv .1, put-next (loop .more) (loop .j) (c .before .before .args .n) (loop .next) (search needs) (search needs) ∙ loop .inv .2)
 
 returns : tie.Need-returns Inv-loop μ-loop
 returns c =

@@ -9,5 +9,5 @@ returns c = λ e. c .before .before .before .before .before .before .is-listing 
 pub compare-listing-spec : {M : Type 1} → statement M
 compare-listing-spec =
     tie.close (tie.spec (λ c κs. search needs) (λ c. search needs) (λ c. search needs) (λ c. search needs) (λ c. search needs) (λ c. search needs)
-    (λ c κs. search needs) returns (λ c κs. search needs) (λ c. search needs) (λ c κs. search needs)
+    (λ c κs. search needs) returns (λ c. search needs) (λ c κs. search needs)
     (λ c. λ e. absurd (let z : _≡_ {A = ℕ} 0 1 = cc in omega arith)))

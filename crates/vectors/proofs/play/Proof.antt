@@ -5,10 +5,10 @@ use Rattle.vectors.proofs.play.Statement.{statement}
 use Rattle.vectors.proofs.play.Tie as tie
 
 abbrev Inv-loop : tie.InvT-loop
-Inv-loop folder rules₀ listing₀ way files₀ differences₀ rules listing files differences = (length rules ≡ length rules₀) × (length listing ≡ length listing₀) × (files ≤ 1000) × (differences ≤ files)
+Inv-loop folder rules₀ beside₀ files₀ differences₀ rules beside files differences = (length rules ≡ length rules₀) × (length beside ≡ length beside₀) × (files ≤ 1000) × (differences ≤ files)
 
 abbrev μ-loop : tie.MeasureT-loop
-μ-loop folder rules₀ listing₀ way files₀ differences₀ rules listing files differences = 1000 - files
+μ-loop folder rules₀ beside₀ files₀ differences₀ rules beside files differences = 1000 - files
 
 pub play-spec : {M : Type 1} → statement M
 play-spec =
