@@ -7,6 +7,15 @@ ghost use lib.ListN.{length};
 ghost use Rattle.meaning.specs.Lists.{All};
 ghost use Rattle.meaning.specs.Cells.{cells};
 
+// The most that a file needs: states, table cells, domain atoms, queries.
+pub const STATES: usize = meaning::MOST_STATES;
+
+pub const TABLES: usize = meaning::MOST_SYMBOLS as usize * STATES * STATES;
+
+pub const MARKS: usize = meaning::MOST_PREDICATES as usize * STATES * STATES * STATES;
+
+pub const VERDICTS: usize = meaning::MOST_QUERIES as usize;
+
 // Whether each buffer of an analysis is long enough.
 pub fn long_enough(
     symbols: &[u8],

@@ -6,6 +6,9 @@ ghost use lib.ListN.{length};
 ghost use Rattle.io.specs.Counts.{Counts};
 ghost use Rattle.folders.specs.Paths.{numberedPath};
 
+// The most files of a folder: their numbers have three digits.
+pub const FILES: usize = 1000;
+
 // How a file compares with what stands beside it.
 pub enum Outcome {
     // There is no such file.

@@ -15,7 +15,7 @@ fn flush(out: &[u8], at: usize) -> usize
     requires { ⌜ (at ≤ length (now out)) × (128 ≤ length (now out)) ⌝ }
     ensures { λ r. ⌜ r + 128 ≤ length (now (out .entry)) ⌝ }
 {
-    if out.len() - at < 128 {
+    if out.len() - at < listing_text::PIECE {
         io::write_all(STDOUT_FILENO, &out[..at]);
         return 0;
     }
@@ -120,14 +120,14 @@ fn list(
     );
 }
 
-// Buffers for 16 states, 24 symbols of arity 2, 16 predicates of arity 3 and 32 queries.
+// The buffers are as long as any file needs.
 fn main() {
     let mut file = io::large_buffer();
     let n = io::read_full(STDIN_FILENO, &mut file);
-    let mut states = [0u16; 16];
-    let mut tables = [0u8; 6144];
-    let mut marks = [0u8; 65536];
-    let mut verdicts = [0u8; 32];
+    let mut states = [0u16; buffers::STATES];
+    let mut tables = [0u8; buffers::TABLES];
+    let mut marks = [0u8; buffers::MARKS];
+    let mut verdicts = [0u8; buffers::VERDICTS];
     let mut out = io::buffer();
     list(
         &file[..n],

@@ -17,6 +17,12 @@ ghost use Rattle.bytes.specs.Pasted.{Put};
 ghost use Rattle.listing_text.specs.Lines.{openWord, clearWord, numberAfter, countLine, countsLine, refusedLine, heldName, heldNames, orDash, stateText, rowText, namedText, queryText, statesText, queriesText};
 ghost use Rattle.listing_text.specs.Listing.{atomLine, placeLine, modelText, pieces, piece, Results};
 
+// No piece has more bytes.
+pub const PIECE: usize = 128;
+
+// The pieces that are a heading: `states`, `model`, `queries`.
+const HEADINGS: usize = 3;
+
 const SPACE: u8 = b' ';
 
 const LINE_END: u8 = b'\n';
@@ -284,7 +290,7 @@ pub fn piece_count(states: &[u16], marks: &[u8], verdicts: &[u8]) -> usize
     requires { ⌜ ((file : List ℕ) × Results file (now states) (now marks) (now verdicts)) ⌝ }
     ensures { λ r. ⌜ ((file : List ℕ) → Results file (now (states .entry)) (now (marks .entry)) (now (verdicts .entry)) → r ≡ pieces file) ⌝ }
 {
-    states.len() + marks.len() + verdicts.len() + 3
+    states.len() + marks.len() + verdicts.len() + HEADINGS
 }
 
 // Piece k of the listing of an accepted file. No piece is longer than 128 bytes.

@@ -9,6 +9,18 @@ ghost use lib.ListN.{length, getD};
 ghost use Rattle.meaning.specs.Fields.{word};
 ghost use Rattle.sheet_vectors.specs.Expected.{IsSheet};
 
+// Room for the domain atoms of the files played, and for what stands beside one and a byte more.
+const MARKS: usize = 8192;
+
+const TEXT: usize = 8192;
+
+// What is expected of a sheet: the answer's number, from here on its place in two bytes, how many table cells there are in two, these, and the sheet itself.
+const PLACE: usize = 1;
+
+const COUNT: usize = 3;
+
+const CELLS: usize = 5;
+
 // What of a file is compared with what stands beside it.
 pub enum Way {
     // The answer to a sheet that is offered, and the tables.
@@ -25,14 +37,13 @@ fn word_at(s: &[u8], at: usize) -> usize
     bytes::wide(s[at]) * 256 + bytes::wide(s[at + 1])
 }
 
-// Whether a file's tables are in a buffer, and a sheet for it is answered as expected. What is expected stands before the sheet: the answer's number,
-// its place in two bytes, how many table cells there are in two, and these.
+// Whether a file's tables are in a buffer, and a sheet for it is answered as expected.
 fn is_checked(file: &[u8], expected: &[u8], tables: &mut [u8], marks: &mut [u8]) -> bool {
-    if expected.len() < 5 {
+    if expected.len() < CELLS {
         return false;
     }
-    let size = word_at(expected, 3);
-    let from = 5 + size;
+    let size = word_at(expected, COUNT);
+    let from = CELLS + size;
     if expected.len() < from {
         return false;
     }
@@ -43,16 +54,16 @@ fn is_checked(file: &[u8], expected: &[u8], tables: &mut [u8], marks: &mut [u8])
     if answer.number != bytes::wide(expected[0]) {
         return false;
     }
-    if answer.place != word_at(expected, 1) {
+    if answer.place != word_at(expected, PLACE) {
         return false;
     }
-    bytes::same(&tables[..size], &expected[5..from])
+    bytes::same(&tables[..size], &expected[CELLS..from])
 }
 
 // Whether a sheet is answered, and the tables written, as expected; if not, that is printed.
 fn compare_check(path: &[u8], file: &[u8], expected: &[u8]) -> bool {
-    let mut tables = [0u8; 6144];
-    let mut marks = [0u8; 8192];
+    let mut tables = [0u8; buffers::TABLES];
+    let mut marks = [0u8; MARKS];
     if is_checked(file, expected, &mut tables, &mut marks) {
         return true;
     }
@@ -85,11 +96,11 @@ fn is_sheet(
 fn compare_sheet(path: &[u8], file: &[u8], expected: &[u8]) -> bool
     ensures { λ r. ⌜ (r ≡ true → IsSheet (now (file .entry)) (now (expected .entry))) ⌝ }
 {
-    let mut states = [0u16; 16];
-    let mut tables = [0u8; 6144];
-    let mut marks = [0u8; 8192];
-    let mut verdicts = [0u8; 32];
-    let mut sheet = [0u8; 8192];
+    let mut states = [0u16; buffers::STATES];
+    let mut tables = [0u8; buffers::TABLES];
+    let mut marks = [0u8; MARKS];
+    let mut verdicts = [0u8; buffers::VERDICTS];
+    let mut sheet = [0u8; TEXT];
     let is = is_sheet(
         file,
         expected,
@@ -121,7 +132,7 @@ fn play_file(rules: &[u8], beside: &[u8], way: Way) -> Outcome {
     if !read.found {
         return Outcome::Missing;
     }
-    let mut text = [0u8; 8192];
+    let mut text = [0u8; TEXT];
     let other = folders::read_beside(beside, &mut text);
     if !other.found {
         return Outcome::Different;
@@ -140,7 +151,7 @@ fn play(folder: &[u8], rules: &mut [u8], beside: &mut [u8], way: Way)
 {
     let mut files: usize = 0;
     let mut differences: usize = 0;
-    while files < 1000 {
+    while files < folders::FILES {
         folders::put_digits(rules, files);
         folders::put_digits(beside, files);
         match play_file(rules, beside, way) {

@@ -21,6 +21,9 @@ pub enum Fit {
 // The bytes of a field that has a state.
 const STATE_FIELD: usize = 5;
 
+// The bytes of a field that has an atom, before its states.
+const BEFORE_STATES: usize = 4;
+
 // How many bytes the fields of the marked atoms take.
 fn atoms_length(marks: &[u8], preds: &[u8], m: usize) -> usize
     requires { ⌜ (m ≤ 16) × (length (now preds) ≤ 16) × All (λ n. n ≤ 3) (now preds) × (length (now marks) ≡ cells m (now preds)) ⌝ }
@@ -32,7 +35,7 @@ fn atoms_length(marks: &[u8], preds: &[u8], m: usize) -> usize
     while p < preds.len() {
         let n = preds[p];
         let e = a + cells::power(m, n);
-        sum = sum + (bytes::wide(n) + 4) * marks::count(&marks[a..e]);
+        sum = sum + (bytes::wide(n) + BEFORE_STATES) * marks::count(&marks[a..e]);
         a = e;
         p += 1;
     }

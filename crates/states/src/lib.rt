@@ -17,8 +17,8 @@ ghost use Rattle.states.specs.Packed.{placeFor, putAt, Holds, packed, ov
 // The most states.
 const MOST: usize = meaning::MOST_STATES;
 
-// Room for the sets of 24 symbols of arity 2 over them.
-const CELLS: usize = 6144;
+// Room for the sets of as many symbols as there may be, of arity 2, over them.
+const CELLS: usize = meaning::MOST_SYMBOLS as usize * MOST * MOST;
 
 // How many states there are, if at most 16.
 pub enum Count {

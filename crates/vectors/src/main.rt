@@ -14,6 +14,11 @@ ghost use Rattle.listing_text.specs.Listing.{listing, Results};
 ghost use Rattle.analysis.specs.Given.{Filled};
 ghost use Rattle.vectors.specs.Expected.{standsAt};
 
+// Room for the domain atoms of the files played, and for a listing and a byte more.
+const MARKS: usize = 8192;
+
+const TEXT: usize = 8192;
+
 // Whether some bytes stand in a listing at a place.
 fn stands_at(expected: &[u8], from: usize, bytes: &[u8]) -> bool
     requires { ⌜ from ≤ length (now expected) ⌝ }
@@ -105,7 +110,7 @@ fn are_results(
 fn is_refusal(number: usize, text: &[u8], expected: &[u8]) -> bool
     ensures { λ r. ⌜ r ≡ (not (eqb number 9) && same (now (text .entry)) (now (expected .entry))) ⌝ }
 {
-    (number != 9) & bytes::same(text, expected)
+    (number != meaning::BUFFER_TOO_SHORT) & bytes::same(text, expected)
 }
 
 // Whether a listing is that of a file, by its analysis in the lent buffers.
@@ -141,15 +146,14 @@ fn is_listing(
     )
 }
 
-// Whether a listing is that of a file; if not, that is printed. The buffers are for 16 states, 24 symbols of arity 2, 8,192 domain atoms and 32
-// queries.
+// Whether a listing is that of a file; if not, that is printed. The buffers are as long as any file needs, but for the marks.
 fn compare_listing(path: &[u8], file: &[u8], expected: &[u8]) -> bool
     ensures { λ r. ⌜ (r ≡ true → now (expected .entry) ≡ listing (now (file .entry))) ⌝ }
 {
-    let mut states = [0u16; 16];
-    let mut tables = [0u8; 6144];
-    let mut marks = [0u8; 8192];
-    let mut verdicts = [0u8; 32];
+    let mut states = [0u16; buffers::STATES];
+    let mut tables = [0u8; buffers::TABLES];
+    let mut marks = [0u8; MARKS];
+    let mut verdicts = [0u8; buffers::VERDICTS];
     let mut out = io::buffer();
     let is = is_listing(
         file,
@@ -174,7 +178,7 @@ fn play_file(rules: &[u8], beside: &[u8]) -> Outcome {
     if !read.found {
         return Outcome::Missing;
     }
-    let mut text = [0u8; 8192];
+    let mut text = [0u8; TEXT];
     let other = folders::read_beside(beside, &mut text);
     if !other.found {
         return Outcome::Different;
@@ -193,7 +197,7 @@ fn play(folder: &[u8], rules: &mut [u8], beside: &mut [u8])
 {
     let mut files: usize = 0;
     let mut differences: usize = 0;
-    while files < 1000 {
+    while files < folders::FILES {
         folders::put_digits(rules, files);
         folders::put_digits(beside, files);
         match play_file(rules, beside) {
