@@ -1,4 +1,4 @@
--- Demand 3 is met for every accepted file (specs/Demand3.antt); sheet checks with buffers long enough exist, for every file and sheet. Assumes nothing.
+-- Demand 3 is met for every accepted file (specs/Demand3.antt). Assumes nothing.
 use Rattle.meaning.proofs.Prelude.{ℕ, _≤_, _≡_, refl, sym, ap, _∙_, subst, _↔_, List, T, eqb, length, length-append, take, drop, take-at}
 use Rattle.meaning.proofs.Prelude.{le-of-eq, arith}
 use Rattle.meaning.proofs.Definitions.{Bytes, Answer, accepted, ok, encodeSheet, InSheet, Valid, sheetAnswer, rulesOf, fileAnswer}
@@ -9,19 +9,9 @@ use Rattle.meaning.proofs.Lists.{cond-yes}
 use Rattle.meaning.proofs.Answers.{then-next}
 use Rattle.meaning.proofs.Acceptance.{acceptance-given}
 use Rattle.meaning.proofs.Certificates as Certificates
-use Rattle.meaning.proofs.Calls.{tables-length, marks-length, lent-exact, lent-zero}
+use Rattle.meaning.proofs.Calls.{lent-exact, lent-zero}
+use Rattle.meaning.proofs.Exists.{shortestLent, lent-long}
 use Rattle.meaning.proofs.Theorems as theorems
-
--- buffers that are just long enough, and what a sheet check hands back with them
-pub shortest : List ℕ → Lent
-shortest file = record { tables = tablesOf file; marks = modelOf file }
-
-pub shortest-long : (file : List ℕ) → LentEnough file (shortest file)
-unfolding shortest
-shortest-long file = record { tables = le-of-eq (sym (tables-length file)); marks = le-of-eq (sym (marks-length file)) }
-
-pub check-exists : (file sheet : List ℕ) → (before : Lent) × LentEnough file before × ((result : Checked) × CheckOf file sheet before result)
-check-exists file sheet = (shortest file, shortest-long file, (checked file sheet (shortest file), record { is = refl }))
 
 -- the sheet we write, after writing it handed back 0
 module _ (file : List ℕ) {before : Buffers} {sheet : List ℕ} {result : Written} (w : WrittenInOrder file before sheet result) (z : result .answer .number ≡ 0) where
@@ -83,15 +73,15 @@ module _ (file : List ℕ) (e : fileAnswer file ≡ accepted) where
 
   valid-passes : (sheet : List ℕ) → ValidSheet sheet → Passes file sheet
   valid-passes sheet v =
-      let call : CheckOf file sheet (shortest file) (checked file sheet (shortest file)) = record { is = refl } in
+      let call : CheckOf file sheet (shortestLent file) (checked file sheet (shortestLent file)) = record { is = refl } in
       record {
-        before = shortest file;
-        long = shortest-long file;
-        result = checked file sheet (shortest file);
+        before = shortestLent file;
+        long = lent-long file;
+        result = checked file sheet (shortestLent file);
         check = call;
         zero =
             ap (λ (a : Answer). a .number)
-            (answer-is call (shortest-long file)
+            (answer-is call (lent-long file)
             ∙ Certificates.valid-accepted (statesOf file) (interpretationOf file) (predicateArities file) (rulesOf file .clauses) sheet v);
       }
 

@@ -26,6 +26,7 @@ pub mod MarkedAtoms
 pub mod Certificates
 pub mod Calls
 pub mod Theorems
+pub mod Exists
 pub mod Demand1
 pub mod Demand2
 pub mod Demand3
