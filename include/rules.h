@@ -1,4 +1,4 @@
-/* A proved analyser of rule files: the four public calls, for C and C++.
+/* A proved analyser of rule files: the three public calls, for C and C++.
  *
  * Link with libexports.a (`rt staticlib exports` writes target/staticlib/libexports.a, for x86-64 Linux). The library
  * allocates nothing, keeps nothing between calls, and calls no foreign function but memcpy and memset. It may be used by
@@ -35,9 +35,9 @@
  *   14      0                the buffer for the written sheet is too short                    sheet untouched, the others filled
  *
  * Needed lengths, for m states: m states; for each symbol m to its arity table cells; for each predicate m to its arity
- * marks, and as many clauses and rounds; one verdict for each query; 5m and, for each atom of the model, 4 and its arity
- * bytes of a sheet. These are always enough: RULES_MAX_STATES, RULES_MAX_TABLES, RULES_MAX_MARKS (also for the clauses
- * and the rounds), RULES_MAX_VERDICTS, RULES_MAX_SHEET. Elements past the needed ones keep their values.
+ * marks; one verdict for each query; 5m and, for each atom of the model, 4 and its arity bytes of a sheet. These are
+ * always enough: RULES_MAX_STATES, RULES_MAX_TABLES, RULES_MAX_MARKS, RULES_MAX_VERDICTS, RULES_MAX_SHEET. Elements past
+ * the needed ones keep their values.
  */
 #ifndef RULES_H
 #define RULES_H
@@ -52,8 +52,8 @@
 #define RULES_MAX_VERDICTS 32
 #define RULES_MAX_SHEET (5 * RULES_MAX_STATES + 7 * RULES_MAX_MARKS) /* 458,832: 5 bytes a state, 7 an atom of arity 3 */
 
-/* The numbers that the calls hand back; the table above says when. rules_analyse and rules_trace hand back 0 to 9,
- * rules_write these and 14, rules_check 0 to 13. */
+/* The numbers that the calls hand back; the table above says when. rules_analyse hands back 0 to 9, rules_write these
+ * and 14, rules_check 0 to 13. */
 enum rules_number {
     RULES_ACCEPTED = 0,
     RULES_FILE_TOO_LONG = 1,
@@ -80,9 +80,6 @@ enum rules_verdict {
     RULES_OPEN = 1
 };
 
-/* Stands among the clauses of rules_trace for a domain atom outside the model; a file has at most 64 clauses. */
-#define RULES_NO_CLAUSE 255
-
 #ifdef __cplusplus
 extern "C" {
 #endif
@@ -98,21 +95,7 @@ size_t rules_analyse(const uint8_t *file, size_t file_len,
                      size_t *place, size_t *state_count,
                      size_t *atom_count, size_t *round_count);
 
-/* As rules_analyse, and with 0 for each domain atom, in the order of the marks: in `rounds` the atom's round, the least
- * stage that holds it, 1 for a fact; in `clauses` the lowest clause, counted from 0, with an instance that has this head
- * and its body in the stage before. Each atom of such a body has an earlier round. A domain atom outside the model has
- * RULES_NO_CLAUSE and round 0. */
-size_t rules_trace(const uint8_t *file, size_t file_len,
-                   uint16_t *states, size_t states_len,
-                   uint8_t *tables, size_t tables_len,
-                   uint8_t *marks, size_t marks_len,
-                   uint8_t *verdicts, size_t verdicts_len,
-                   uint8_t *clauses, size_t clauses_len,
-                   uint32_t *rounds, size_t rounds_len,
-                   size_t *place, size_t *state_count,
-                   size_t *atom_count, size_t *round_count);
-
-/* As rules_analyse, and with 0 the file's sheet, of *byte_count bytes. With 14 the other buffers are filled as for 0. */
+/* The same, and with 0 the file's sheet, of *byte_count bytes. With 14 the other buffers are filled as for 0. */
 size_t rules_write(const uint8_t *file, size_t file_len,
                    uint16_t *states, size_t states_len,
                    uint8_t *tables, size_t tables_len,

@@ -2,7 +2,6 @@
 """Makes a rule file from a readable text.
 
     python3 make.py NAME.txt NAME.rules     makes the rule file; what is wrong or doubtful is printed with line and column
-    python3 make.py --clauses NAME.txt      prints each clause after its line and its number, by which the program trace_listing names it
     python3 make.py --help                  prints this
 
 One declaration a line; # begins a comment. Lines may stand in any order; the things of a kind are numbered from 0 as they stand.
@@ -299,48 +298,26 @@ def make(text):
     return out, sorted(errors), [] if errors else maker.doubts()
 
 
-def clauses(text):
-    """The line of each clause, by number, and what stands there."""
-    lines = text.split("\n")
-    numbers = [words.line for words in lines_of(text)[0]["clause"]]
-    return [(line, lines[line - 1].partition("#")[0].replace("clause", "", 1).strip()) for line in numbers]
-
-
-def read(source):
-    """The text and the bytes of its rule file. What is wrong or doubtful is printed, and an error ends the program."""
-    with open(source, encoding="utf-8-sig", errors="replace") as file:  # a byte order mark is passed over, and CRLF read as a line's end
-        text = file.read()
-    out, errors, warnings = make(text)
-    for line, column, said in errors:
-        print("%s:%d:%d: %s" % (source, line, column, said), file=sys.stderr)
-    for line, column, said in warnings:
-        print("%s:%d:%d: warning: %s" % (source, line, column, said), file=sys.stderr)
-    if errors:
-        sys.exit(1)
-    return text, out
-
-
-def write(source, target):
-    if os.path.exists(target) and os.path.samefile(source, target):
-        sys.exit("%s: the rule file would take the place of its text" % target)
-    _, out = read(source)
-    with open(target, "wb") as file:
-        file.write(out)
-
-
 def main():
     if sys.argv[1:] in (["--help"], ["-h"]):
         print(__doc__.strip())
         return
-    if len(sys.argv) != 3 or sys.argv[1].startswith("-") and sys.argv[1] != "--clauses":
-        sys.exit("usage: python3 make.py NAME.txt NAME.rules, --clauses NAME.txt, or --help")
+    if len(sys.argv) != 3 or sys.argv[1].startswith("-"):
+        sys.exit("usage: python3 make.py NAME.txt NAME.rules, or --help")
+    source, target = sys.argv[1:]
     try:
-        if sys.argv[1] == "--clauses":
-            text, _ = read(sys.argv[2])
-            for number, (line, said) in enumerate(clauses(text)):
-                print("%s:%d: clause %d: %s" % (sys.argv[2], line, number, said))
-        else:
-            write(*sys.argv[1:])
+        if os.path.exists(target) and os.path.samefile(source, target):
+            sys.exit("%s: the rule file would take the place of its text" % target)
+        with open(source, encoding="utf-8-sig", errors="replace") as text:  # a byte order mark is passed over, and CRLF read as a line's end
+            out, errors, warnings = make(text.read())
+        for line, column, said in errors:
+            print("%s:%d:%d: %s" % (source, line, column, said), file=sys.stderr)
+        for line, column, said in warnings:
+            print("%s:%d:%d: warning: %s" % (source, line, column, said), file=sys.stderr)
+        if errors:
+            sys.exit(1)
+        with open(target, "wb") as file:
+            file.write(out)
     except OSError as error:
         sys.exit(str(error))
 

@@ -62,19 +62,6 @@ class Made(unittest.TestCase):
             self.assertEqual((done.returncode, done.stderr), (1, text + ":10:8: predicate 'q' is not declared\n"))
             self.assertFalse(os.path.exists(rules))
 
-    def test_clauses(self):
-        """The numbers are those of the rule file: clauses as they stand, whatever stands between them. An error is printed instead."""
-        with tempfile.TemporaryDirectory() as folder:
-            text = os.path.join(folder, "e.txt")
-            with open(text, "w") as file:
-                file.write("# E\n" + E + "  clause p(s(z))  # one more\n")
-            lines = ["7: clause 0: p(z)", "8: clause 1: p(s(s(X))) :- p(X)", "11: clause 2: p(s(z))"]
-            self.assertEqual(run("--clauses", text).stdout, "".join("%s:%s\n" % (text, line) for line in lines))
-            with open(text, "a") as file:
-                file.write("clause q(z)\n")
-            done = run("--clauses", text)
-            self.assertEqual((done.returncode, done.stdout, done.stderr), (1, "", text + ":12:8: predicate 'q' is not declared\n"))
-
     def test_help(self):
         self.assertIn("NAME.rules", run("--help").stdout)
         self.assertNotEqual(run().returncode, 0)

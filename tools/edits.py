@@ -4,8 +4,7 @@
     python3 tools/edits.py            after `rt ci` or `rt must-fail`; exits with 1 if an edit was not refused at a fact
     python3 tools/edits.py --check    only says whether docs/EDITS.md lists the edits that there are
 
-What is wrong is the first comment line of an edit. A line `# 01: ..` says which wrong program of the specification it is, a line `# 02: ..` which
-request of 02 it guards.
+What is wrong is the first comment line of an edit. A line `# 01: ..` says which wrong program of the specification it is.
 """
 import re
 import sys
@@ -33,11 +32,11 @@ def crates():
 
 
 def edits():
-    """Crate, label, what is wrong, and its lines `01: ..` and `02: ..`."""
+    """Crate, label, what is wrong, and the wrong programs of 01 that it is."""
     for crate in crates():
         for file in sorted((ROOT / "crates" / crate / "must-fail").glob("*.edit")):
             notes = [line[2:].strip() for line in file.read_text().splitlines() if line.startswith("# ")]
-            yield crate, file.stem, notes[0], [n for n in notes[1:] if n.startswith(("01: ", "02: "))]
+            yield crate, file.stem, notes[0], [n[4:] for n in notes[1:] if n.startswith("01: ")]
 
 
 def fact(crate, label):
@@ -92,23 +91,12 @@ def name_of(function, need):
     return f"`{need}` in `{function}`", False
 
 
-def order(item):
-    """The wrong programs of 01 as they come, the requests of 02 by number."""
-    number = re.match(r"02: P(\d+)", item[0])
-    return int(number.group(1)) if number else 0
-
-
 def page(rows, facts):
     named = {}
-    for crate, label, _, notes in rows:
-        for note in notes:
-            named.setdefault(note, []).append(f"`{crate}/{label}`")
-
-    def table(document):
-        return [f"| {note[4:]} | {', '.join(labels)} |" for note, labels in sorted(named.items(), key=order) if note.startswith(document)]
-
-    lines = table("01: ")
-    lines += ["", "## The requests of 02", "", "| request | edits |", "|---|---|"] + table("02: ")
+    for crate, label, _, wrong in rows:
+        for w in wrong:
+            named.setdefault(w, []).append(f"`{crate}/{label}`")
+    lines = [f"| {w} | {', '.join(labels)} |" for w, labels in named.items()]
     lines += ["", "## All of them", "", "| what is wrong | edit | refused at |", "|---|---|---|"]
     lines += [f"| {what} | `{crate}/{label}` | {facts[crate, label]} |" for crate, label, what, _ in rows]
     return HEAD + "\n".join(lines) + "\n"

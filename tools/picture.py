@@ -45,7 +45,6 @@ propagation      instructions run up to / the next variable
 derivation       valuation complete: / body, then head
 join             one clause: a search / driven by the delta
 clause_runs      the due clauses, / in file order
-provenance       the clause and round / of each new atom
 marks            a predicate's marks: / zeroed, counted
 delta_merge      a round settled: the / delta into the stage
 fixpoint         rounds, until nothing / is new: the model
@@ -60,14 +59,12 @@ sheet_answer     10 to 13 / in their order
 sheet_check      the call / check
 analysis_output  model and verdicts / into lent buffers
 analysis         the call analyse
-trace            the call analyse, with / clauses and rounds
 certificate      the call / write
-exports          the four calls / for C and Rust
+exports          the three calls / for C and Rust
 text             decimals / into a buffer
 listing_text     the text of / a listing's lines
-printing         text printed / from a buffer
+listing_answer   analysis for a listing, / or a refusal's line
 listing          program: prints / a listing
-trace_listing    program: prints / clauses and rounds
 folders          numbered files read, / counts printed
 vectors          program: plays inputs, / compares listings
 sheet_vectors    program: plays sheets, / compares answers

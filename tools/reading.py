@@ -12,7 +12,7 @@ ROOT = Path(__file__).resolve().parent.parent
 SPECS = ROOT / "crates" / "meaning" / "specs"
 
 # in the order of reading: what the statements are about, then the statements, then what the exported contracts add
-ORDER = """Lists Limits Syntax Fields Contents Refusals Encoding Legal Types Cells States Files Clauses Ground Certificates Provenance Calls Tracing Given Demand1 Demand2 Demand3 Request1""".split()
+ORDER = """Lists Limits Syntax Fields Contents Refusals Encoding Legal Types Cells States Files Clauses Ground Certificates Calls Given Demand1 Demand2 Demand3""".split()
 
 
 def lines(path):
@@ -42,7 +42,7 @@ def rows():
     total = 0
     for path in files:
         total += lines(path)
-        about = "The exported calls with their contracts" if path.suffix == ".rt" else subject(path)
+        about = "The three exported calls with their contracts" if path.suffix == ".rt" else subject(path)
         table.append(f"| `{path.relative_to(ROOT)}` | {lines(path)} | {about} |")
     return table + [f"| all | {total} | |"]
 

@@ -9,14 +9,12 @@
 #include <stdlib.h>
 #include <string.h>
 
-enum { CALLS = 4, STACK = 4 * 1024 * 1024, FILE_MAX = 32768, PATTERN = 0x5A };
+enum { STACK = 4 * 1024 * 1024, FILE_MAX = 32768, PATTERN = 0x5A };
 
 static uint8_t file[FILE_MAX];
 static size_t file_len;
 static uint16_t states[RULES_MAX_STATES];
 static uint8_t tables[RULES_MAX_TABLES], marks[RULES_MAX_MARKS], verdicts[RULES_MAX_VERDICTS], sheet[RULES_MAX_SHEET];
-static uint8_t clauses[RULES_MAX_MARKS];
-static uint32_t rounds[RULES_MAX_MARKS];
 static size_t place, state_count, atom_count, round_count, byte_count;
 
 static size_t number;   /* of the last call */
@@ -28,16 +26,6 @@ static void *analyse(void *none)
     top = &here;
     number = rules_analyse(file, file_len, states, RULES_MAX_STATES, tables, RULES_MAX_TABLES, marks, RULES_MAX_MARKS,
                            verdicts, RULES_MAX_VERDICTS, &place, &state_count, &atom_count, &round_count);
-    return none;
-}
-
-static void *trace(void *none)
-{
-    uint8_t here = 0;
-    top = &here;
-    number = rules_trace(file, file_len, states, RULES_MAX_STATES, tables, RULES_MAX_TABLES, marks, RULES_MAX_MARKS,
-                         verdicts, RULES_MAX_VERDICTS, clauses, RULES_MAX_MARKS, rounds, RULES_MAX_MARKS, &place,
-                         &state_count, &atom_count, &round_count);
     return none;
 }
 
@@ -111,12 +99,12 @@ static int read_file(const char *path)
     return 1;
 }
 
-static void measure(const char *name, size_t most[CALLS])
+static void measure(const char *name, size_t most[3])
 {
-    void *(*const calls[CALLS])(void *) = { analyse, trace, write_sheet, check };
+    void *(*const calls[3])(void *) = { analyse, write_sheet, check };
     int i;
     printf("%-28s", name);
-    for (i = 0; i < CALLS; i++) {
+    for (i = 0; i < 3; i++) {
         size_t used = depth(calls[i]);
         most[i] = used > most[i] ? used : most[i];
         printf(" %9zu", used);
@@ -126,9 +114,9 @@ static void measure(const char *name, size_t most[CALLS])
 
 int main(int argc, char **argv)
 {
-    size_t most[CALLS] = { 0 };
+    size_t most[3] = { 0, 0, 0 };
     int i;
-    printf("bytes of stack                 analyse     trace     write     check\n");
+    printf("bytes of stack                 analyse     write     check\n");
     make_deep();
     measure("(terms nested deep)", most);
     for (i = 1; i < argc; i++) {
@@ -138,6 +126,6 @@ int main(int argc, char **argv)
         }
         measure(strrchr(argv[i], '/') == NULL ? argv[i] : strrchr(argv[i], '/') + 1, most);
     }
-    printf("%-28s %9zu %9zu %9zu %9zu\n", "most", most[0], most[1], most[2], most[3]);
+    printf("%-28s %9zu %9zu %9zu\n", "most", most[0], most[1], most[2]);
     return 0;
 }

@@ -5,12 +5,12 @@ use Rattle.meaning.proofs.Definitions.{All, lowest, look_up, Clause, Query, tag_
 use Rattle.meaning.proofs.Definitions.{WellClause, WellQuery, is_some, read_clause, read_query, accepted, arities_in, bit, start, cells, marked, model}
 use Rattle.meaning.proofs.Definitions.{rounds, is_open, marked_atoms, violated_at, read_all, rules_of, file_answer, symbol_arities, predicate_arities}
 use Rattle.meaning.proofs.Definitions.{states_of, step_of, interpretation_of, tables_of, rounds_of, model_of, atoms_of, verdict_of, verdicts_of, written}
-use Rattle.meaning.proofs.Lists.{All-map, table_ext, lowest_ext}
+use Rattle.meaning.proofs.Lists.{All-map, lowest_ext}
 use Rattle.meaning.proofs.Contents.{query-well}
 use Rattle.meaning.proofs.States.{cell_range, length-tables}
 use Rattle.meaning.proofs.Setting.{InRange}
 use Rattle.meaning.proofs.Calls.{marks-length}
-use Rattle.meaning.proofs.Interpretations.{model-same, rounds-same, round_mark-same, clause_mark-same, open_same, violated_at-same}
+use Rattle.meaning.proofs.Interpretations.{model-same, rounds-same, open_same, violated_at-same}
 use Rattle.declarations.specs.declared.Known.{Known}
 use Rattle.declarations.specs.Known.{Knows, fields_read}
 use Rattle.declarations.specs.Tests.{known_types, known_symbols, known_predicates, earlier_in}
@@ -18,9 +18,9 @@ use Rattle.declarations.proofs.Knowing.{count_of, known_types_lem, known_symbols
 use Rattle.parser.proofs.Whole.{well, knows_all, earlier, reads}
 use Rattle.parser.proofs.Limits.{accepted-read, accepted-few, predicates-few, predicates-small, states-some, predicates_known, predicates-count, predicates-length}
 use Rattle.acceptance.proofs.Ready.{limited}
-use Rattle.evaluation.proofs.Definitions.{Setting, clause_of, clauses_in, Readable, no_atom, query_of, Short, Modelling, origin_of, origin_marks}
+use Rattle.evaluation.proofs.Definitions.{Setting, clause_of, clauses_in, Readable, no_atom, query_of, Short, Modelling}
 use Rattle.evaluation.proofs.Tables.{look_up-tables, range_states}
-use Rattle.acceptance.specs.Handed.{Queries, verdict_in, origins_of}
+use Rattle.acceptance.specs.Handed.{Queries, verdict_in}
 use Rattle.evaluation.proofs.Content.{clauses-well}
 
 -- contents that can be read say what is read of them
@@ -105,15 +105,11 @@ module _ (file : List ℕ) (known : Known) (e : file_answer file ≡ accepted) (
       let read = accepted-read file e in
       subst (λ (cs : List (List ℕ)). length cs ≤ 64) (sym (earlier file known read knows clause)) ((well file known read knows).counts clause)
 
-  clauses_are_lem : clauses_in (known_symbols known) (known_predicates known) (earlier_in file known 5) ≡ (rules_of file).clauses
+  clauses_are : clauses_in (known_symbols known) (known_predicates known) (earlier_in file known 5) ≡ (rules_of file).clauses
   unfolding clause_of
-  clauses_are_lem =
+  clauses_are =
       read-map (read_clause (known_symbols known) (known_predicates known)) _ (earlier_in file known 5) clauses-read
       ∙ (reads file known (accepted-read file e) knows).clauses
-
-  pub rules-most : length (rules_of file).clauses ≤ 64
-  rules-most =
-      omega (arith, clauses-most, ap length clauses_are_lem, length-map (earlier_in file known 5) (clause_of (known_symbols known) (known_predicates known)))
 
   pub queries-read : Queries (known_types known) (known_symbols known) (known_predicates known) (earlier_in file known 6)
   queries-read =
@@ -196,25 +192,15 @@ module _ (file : List ℕ) (known : Known) (e : file_answer file ≡ accepted) (
         model-same (known_symbols known) m (look_up m (known_symbols known) table) (interpretation_of file) table_range agrees (known_predicates known)
         (clauses_in (known_symbols known) (known_predicates known) (earlier_in file known 5))
         well-clauses
-        ∙ ap₂ (model m (interpretation_of file)) preds_are_lem clauses_are_lem
+        ∙ ap₂ (model m (interpretation_of file)) preds_are_lem clauses_are
 
-    pub rounds_are_lem : rounds m (look_up m (known_symbols known) table) (known_predicates known) (clauses_in (known_symbols known) (known_predicates known) (earlier_in file known 5)) ≡ rounds_of file
+    pub rounds_are : rounds m (look_up m (known_symbols known) table) (known_predicates known) (clauses_in (known_symbols known) (known_predicates known) (earlier_in file known 5)) ≡ rounds_of file
     unfolding rounds_of
-    rounds_are_lem =
+    rounds_are =
         rounds-same (known_symbols known) m (look_up m (known_symbols known) table) (interpretation_of file) table_range agrees (known_predicates known)
         (clauses_in (known_symbols known) (known_predicates known) (earlier_in file known 5))
         well-clauses
-        ∙ ap₂ (rounds m (interpretation_of file)) preds_are_lem clauses_are_lem
-
-    -- the origins of its atoms
-    pub origins_are : origin_marks m (look_up m (known_symbols known) table) (known_predicates known) (clauses_in (known_symbols known) (known_predicates known) (earlier_in file known 5)) ≡ origins_of file
-    unfolding origins_of origin_marks
-    origins_are =
-        table_ext (cells m (known_predicates known)) _ _ (λ i lt.
-        ap₂ origin_of
-        (round_mark-same (known_symbols known) m (look_up m (known_symbols known) table) (interpretation_of file) table_range agrees (known_predicates known) (clauses_in (known_symbols known) (known_predicates known) (earlier_in file known 5)) well-clauses i)
-        (clause_mark-same (known_symbols known) m (look_up m (known_symbols known) table) (interpretation_of file) table_range agrees (known_predicates known) (clauses_in (known_symbols known) (known_predicates known) (earlier_in file known 5)) well-clauses i))
-        ∙ ap₂ (λ (ps : List ℕ) (cs : List Clause). origin_marks m (interpretation_of file) ps cs) preds_are_lem clauses_are_lem
+        ∙ ap₂ (rounds m (interpretation_of file)) preds_are_lem clauses_are
 
     -- the lowest clause with a violation in some atoms
     pub violations_are : (atoms : List (List ℕ))
@@ -226,7 +212,7 @@ module _ (file : List ℕ) (known : Known) (e : file_answer file ≡ accepted) (
         (clauses_in (known_symbols known) (known_predicates known) (earlier_in file known 5))
         well-clauses
         i)
-        ∙ ap (λ (cs : List Clause). lowest (length cs) (violated_at m (interpretation_of file) atoms cs)) clauses_are_lem
+        ∙ ap (λ (cs : List Clause). lowest (length cs) (violated_at m (interpretation_of file) atoms cs)) clauses_are
 
     -- the verdicts
     well-query : (c : List ℕ) → T (is_some (read_query (known_types known) (known_symbols known) (known_predicates known) c)) → WellQuery (known_types known) (known_symbols known) (known_predicates known) (query_of (known_types known) (known_symbols known) (known_predicates known) c)

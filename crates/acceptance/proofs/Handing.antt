@@ -8,10 +8,10 @@ use Rattle.declarations.specs.declared.Known.{Known}
 use Rattle.declarations.specs.Tests.{known_types, known_symbols, known_predicates, earlier_in}
 use Rattle.parser.proofs.Limits.{accepted-read, accepted-few}
 use Rattle.acceptance.proofs.Ready.{limited}
-use Rattle.evaluation.proofs.Definitions.{stage_masks, both_masks, code_size, plan_size, AllShown, clauses_in, Short, PresentOnly, Modelling, Asking, origin_marks}
+use Rattle.evaluation.proofs.Definitions.{stage_masks, both_masks, code_size, plan_size, AllShown, clauses_in, Short, PresentOnly, Modelling, Asking}
 use Rattle.evaluation.proofs.Empty.{room, zeros}
 use Rattle.cells.specs.Starts.{Starts}
-use Rattle.acceptance.specs.Handed.{Handed, EngineBuffers, Queries, verdict_in, origins_of}
+use Rattle.acceptance.specs.Handed.{Handed, EngineBuffers, Queries, verdict_in}
 use Rattle.byte_runs.proofs.Written.{holds-room, holds-first}
 use Rattle.acceptance.proofs.Handed as laws
 
@@ -59,11 +59,7 @@ module _ {file : List ℕ} {known : Known} {symbols preds : List ℕ} {m : ℕ} 
 
   pub handed_rounds : rounds m (look_up m symbols tables) preds (clauses_in symbols preds (earlier_in file known 5)) ≡ rounds_of file
   handed_rounds =
-      at (λ n ss ps t. rounds n (look_up n ss t) ps (clauses_in ss ps (earlier_in file known 5)) ≡ rounds_of file) (laws.rounds_are_lem file known h.answer h.knows tables)
-
-  pub handed_origins : origin_marks m (look_up m symbols tables) preds (clauses_in symbols preds (earlier_in file known 5)) ≡ origins_of file
-  handed_origins =
-      at (λ n ss ps t. origin_marks n (look_up n ss t) ps (clauses_in ss ps (earlier_in file known 5)) ≡ origins_of file) (laws.origins_are file known h.answer h.knows tables)
+      at (λ n ss ps t. rounds n (look_up n ss t) ps (clauses_in ss ps (earlier_in file known 5)) ≡ rounds_of file) (laws.rounds_are file known h.answer h.knows tables)
 
   pub handed_violations : (atoms : List (List ℕ))
       → lowest (length (clauses_in symbols preds (earlier_in file known 5))) (violated_at m (look_up m symbols tables) atoms (clauses_in symbols preds (earlier_in file known 5)))

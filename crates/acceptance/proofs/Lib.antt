@@ -2,4 +2,3 @@ pub mod Ready
 pub mod Answering
 pub mod Handed
 pub mod Handing
-pub mod Accepting

@@ -1,5 +1,5 @@
--- What is handed on of an accepted file, its verdicts, and the origins of its atoms.
-use Rattle.std.specs.Prelude.{ℕ, ◌*◌, ◌≤◌, ◌<◌, ◌≡◌, List, T, length, get_or}
+-- What is handed on of an accepted file, and its verdicts.
+use Rattle.std.specs.Prelude.{ℕ, ◌*◌, ◌≤◌, ◌≡◌, List, T, length, get_or}
 use Rattle.meaning.specs.Lists.{All}
 use Rattle.meaning.specs.States.{look_up}
 use Rattle.meaning.specs.Types.{bit}
@@ -7,15 +7,14 @@ use Rattle.meaning.specs.Contents.{is_some, read_query}
 use Rattle.cells.specs.Starts.{Starts}
 use Rattle.meaning.specs.Clauses.{marked, is_open}
 use Rattle.meaning.specs.Refusals.{accepted}
-use Rattle.meaning.specs.Files.{rules_of, file_answer}
-use Rattle.meaning.specs.Calls.{states_of, interpretation_of, predicate_arities, tables_of, model_of, written}
+use Rattle.meaning.specs.Files.{file_answer}
+use Rattle.meaning.specs.Calls.{states_of, tables_of, written}
 use Rattle.declarations.specs.declared.Known.{Known}
 use Rattle.declarations.specs.Known.{Knows, fields_read}
 use Rattle.declarations.specs.Tests.{known_symbols, known_predicates}
 use Rattle.evaluation.specs.Masks.{stage_masks, both_masks}
 use Rattle.evaluation.specs.Programs.{code_size, plan_size}
 use Rattle.evaluation.specs.Asking.{query_of}
-use Rattle.evaluation.specs.Origins.{origin_marks}
 
 -- what is handed on of an accepted file: its arities, states and tables
 pub record Handed (file : List ℕ) (known : Known) (symbols preds : List ℕ) (m : ℕ) (starts segments tables : List ℕ) : Type 0 where
@@ -43,10 +42,3 @@ Queries types arities preds contents = All (λ (c : List ℕ). T (is_some (read_
 abbrev pub verdict_in : ℕ → ℕ → List ℕ → List ℕ → List ℕ → List ℕ → List ℕ → List ℕ → ℕ
 verdict_in types m sets arities tables preds marks content =
     bit (is_open sets m (look_up m arities tables) (marked m preds marks) (query_of types arities preds content))
-
--- the origins of the atoms of a file (02, P1), and what is lent for them: a place for each domain atom, or none
-unfoldable pub origins_of : List ℕ → List ℕ
-origins_of file = origin_marks (length (states_of file)) (interpretation_of file) (predicate_arities file) (rules_of file).clauses
-
-abbrev pub OriginsLent : List ℕ → List ℕ → Type 0
-OriginsLent file origins = 0 < length origins → length origins ≡ length (model_of file)

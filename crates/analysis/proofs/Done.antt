@@ -8,10 +8,6 @@ use Rattle.analysis.specs.declared.Analysis.{Analysis}
 use Rattle.analysis.specs.Given.{given, Filled}
 use Rattle.byte_runs.proofs.Written.{written_again}
 
--- writing the needed bytes again would change nothing
-pub again : {l : List ℕ} (needed before : List ℕ) → l ≡ written needed before → l ≡ written needed l
-again needed before e = e ∙ (sym (written_again needed before) ∙ ap (written needed) (sym e))
-
 module _ (file : List ℕ) (before after : Buffers) (r : Analysis) (is : given r after ≡ analysed file before) (z : r.answer.number ≡ 0) where
   done_is : given r after ≡ analysis_done file before
   done_is = (demand_1 file).fills (record { is = is }) z
@@ -27,6 +23,10 @@ module _ (file : List ℕ) (before after : Buffers) (r : Analysis) (is : given r
 
   pub count_of_rounds : r.rounds ≡ rounds_of file
   count_of_rounds = ap (λ (a : Analysed). a.rounds) done_is
+
+  -- writing the needed bytes again would change nothing
+  again : {l : List ℕ} (needed before : List ℕ) → l ≡ written needed before → l ≡ written needed l
+  again needed before e = e ∙ (sym (written_again needed before) ∙ ap (written needed) (sym e))
 
   pub holds-states : after.states ≡ written (states_of file) after.states
   holds-states = again (states_of file) before.states (ap (λ (a : Analysed). a.after.states) done_is)

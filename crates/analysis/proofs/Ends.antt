@@ -1,60 +1,59 @@
 -- How an analysis ends: refused with 1 to 8, with 9, or done. Assumes nothing.
 use Rattle.meaning.proofs.Prelude.{ℕ, ◌≤◌, ◌≡◌, sym, ap, ◌∙◌, ◌≢◌, Bool, true, false, not, ◌&&◌, List, T, leb, leb→le, length, arith}
-use Rattle.meaning.proofs.Definitions.{file_answer, states_of, tables_of, model_of, verdicts_of, Buffers, long_enough, analysis_answer, analysed_with, analysed}
+use Rattle.meaning.proofs.Definitions.{cells, file_answer, states_of, tables_of, model_of, verdicts_of, Buffers, long_enough, analysis_answer, analysed}
 use Rattle.meaning.proofs.Definitions.{analysis_done}
 use Rattle.meaning.specs.Refusals as meant
 use Rattle.meaning.proofs.Lists.{both}
 use Rattle.meaning.proofs.Answers.{then_first, then_next}
-use Rattle.meaning.proofs.Calls.{with_refused}
+use Rattle.meaning.proofs.Calls.{analysis-refused, analysis-filled}
 use Rattle.answers.specs.declared.Answer.{Answer}
 use Rattle.answers.specs.Answered.{answered}
 use Rattle.analysis.specs.Given.{given, no_counts}
 
--- 1 to 8, then 9 by a test of lengths: the answer in each case
-module _ (file : List ℕ) (long : Bool) where
-  abbrev ends : meant.Answer
-  ends = meant.and_then (file_answer file) (meant.refuse_if (not long) 9 0)
-
-  pub first-is : {a : Answer} → answered a ≡ file_answer file → a.number ≢ 0 → answered a ≡ ends
-  first-is e h = e ∙ sym (then_first (file_answer file) (meant.refuse_if (not long) 9 0) (λ z. h (ap (λ (x : meant.Answer). x.number) e ∙ z)))
-
-  module _ (e : file_answer file ≡ meant.accepted) where
-    next : ends ≡ meant.refuse_if (not long) 9 0
-    next = then_next (file_answer file) (meant.refuse_if (not long) 9 0) (ap (λ (x : meant.Answer). x.number) e)
-
-    pub nine_is : {a : Answer} → answered a ≡ meant.refused 9 0 → long ≡ false → answered a ≡ ends
-    nine_is is short = is ∙ sym (next ∙ ap (λ (b : Bool). meant.refuse_if (not b) 9 0) short)
-
-    pub zero_is : long ≡ true → meant.accepted ≡ ends
-    zero_is enough = sym (next ∙ ap (λ (b : Bool). meant.refuse_if (not b) 9 0) enough)
-
--- a number that is 9 is not 0
-pub nine_some : {a : Answer} → answered a ≡ meant.refused 9 0 → a.number ≢ 0
-nine_some {a} is z = absurd (omega (arith, ap (λ (x : meant.Answer). x.number) is, z))
-
 module _ (file : List ℕ) (before : Buffers) where
   -- a refusal, with all buffers untouched
-  pub refused_with : {a : Answer} {answer : meant.Answer} → answered a ≡ answer → a.number ≢ 0 → given (no_counts a) before ≡ analysed_with answer file before
-  refused_with {a} e h =
-      let w = with_refused (answered a) file before h in
-      (λ i. record { answer = answered a; states = sym w.1 i; atoms = sym w.2 i; rounds = sym w.3 i; after = sym w.0 i })
-      ∙ ap (λ (x : meant.Answer). analysed_with x file before) e
+  refused-is : {a : Answer} → answered a ≡ analysis_answer file before → (analysis_answer file before).number ≢ 0 → given (no_counts a) before ≡ analysed file before
+  unfolding analysed
+  refused-is e h =
+      let w = analysis-refused file before h in
+      λ i. record { answer = e i; states = sym w.1 i; atoms = sym w.2 i; rounds = sym w.3 i; after = sym w.0 i }
 
   -- 1 to 8
   pub file_refused : {a : Answer} → answered a ≡ file_answer file → a.number ≢ 0 → given (no_counts a) before ≡ analysed file before
-  unfolding analysed analysis_answer
-  file_refused e h = refused_with (first-is file (long_enough file before) e h) h
+  unfolding analysis_answer
+  file_refused {a} e h =
+      let pos : (file_answer file).number ≢ 0 = λ z. h (ap (λ (x : meant.Answer). x.number) e ∙ z) in
+      let same = then_first (file_answer file) (meant.refuse_if (not (long_enough file before)) 9 0) pos in
+      refused-is (e ∙ sym same) (λ z. pos (sym (ap (λ (x : meant.Answer). x.number) same) ∙ z))
 
   module _ (e : file_answer file ≡ meant.accepted) where
+    next : analysis_answer file before ≡ meant.refuse_if (not (long_enough file before)) 9 0
+    unfolding analysis_answer
+    next = then_next (file_answer file) (meant.refuse_if (not (long_enough file before)) 9 0) (ap (λ (x : meant.Answer). x.number) e)
+
     -- 9
     pub too_short : {a : Answer} → answered a ≡ meant.refused 9 0 → long_enough file before ≡ false → given (no_counts a) before ≡ analysed file before
-    unfolding analysed analysis_answer
-    too_short is short = refused_with (nine_is file (long_enough file before) e is short) (nine_some is)
+    too_short is short =
+        let nine : analysis_answer file before ≡ meant.refused 9 0 = next ∙ ap (λ (b : Bool). meant.refuse_if (not b) 9 0) short in
+        refused-is (is ∙ sym nine) (λ z. absurd (omega (arith, ap (λ (x : meant.Answer). x.number) nine, z)))
 
     -- 0
     pub done : long_enough file before ≡ true → analysis_done file before ≡ analysed file before
-    unfolding analysed analysis_answer
-    done long = ap (λ (x : meant.Answer). analysed_with x file before) (zero_is file (long_enough file before) e long)
+    unfolding analysed
+    done long =
+        let zero_is : analysis_answer file before ≡ meant.accepted = next ∙ ap (λ (b : Bool). meant.refuse_if (not b) 9 0) long in
+        let w = analysis-filled file before (ap (λ (x : meant.Answer). x.number) zero_is) in
+        λ i. record { answer = sym zero_is i; states = sym w.1 i; atoms = sym w.2 i; rounds = sym w.3 i; after = sym w.0 i }
+
+  -- the lengths that are looked at are those that are needed
+  pub enough-is : (m : ℕ) (symbols preds : List ℕ) (queries : ℕ)
+      → m ≡ length (states_of file)
+      → cells m symbols ≡ length (tables_of file)
+      → cells m preds ≡ length (model_of file)
+      → queries ≡ length (verdicts_of file)
+      → (leb m (length before.states) && leb (cells m symbols) (length before.tables) && leb (cells m preds) (length before.marks) && leb queries (length before.verdicts)) ≡ long_enough file before
+  enough-is m symbols preds queries a b c d i =
+      leb (a i) (length before.states) && leb (b i) (length before.tables) && leb (c i) (length before.marks) && leb (d i) (length before.verdicts)
 
   pub room : T (long_enough file before)
       → (length (states_of file) ≤ length before.states)

@@ -1,3 +1,3 @@
 pub mod Ends
 pub mod Done
-pub mod Sizes
+pub mod Shown

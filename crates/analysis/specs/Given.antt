@@ -3,8 +3,6 @@ use Rattle.std.specs.Prelude.{ℕ, ◌≡◌, List, length}
 use Rattle.meaning.specs.Refusals.{accepted}
 use Rattle.meaning.specs.Files.{file_answer}
 use Rattle.meaning.specs.Calls.{states_of, model_of, verdicts_of, written, Buffers, Analysed}
-use Rattle.declarations.specs.declared.Known.{Known}
-use Rattle.declarations.specs.Known.{Knows, fields_read}
 use Rattle.answers.specs.declared.Answer.{Answer}
 use Rattle.answers.specs.Answered.{answered}
 use Rattle.analysis.specs.declared.Analysis.{Analysis}
@@ -16,12 +14,6 @@ given r after = record { answer = answered r.answer; states = r.states; atoms = 
 -- every count is 0 with a refusal
 abbrev pub no_counts : Answer → Analysis
 no_counts answer = record { answer = answer; states = 0; atoms = 0; rounds = 0 }
-
--- what is known of an accepted file, and the number of its states
-pub record StatesOf (file : List ℕ) (known : Known) (m : ℕ) : Type 0 where
-  pub answer : file_answer file ≡ accepted
-  pub knows : Knows known (fields_read file)
-  pub count : m ≡ length (states_of file)
 
 -- buffers that an analysis of an accepted file has filled, with m states
 pub record Filled (file : List ℕ) (m : ℕ) (states marks verdicts : List ℕ) : Type 0 where

@@ -1,22 +1,11 @@
 -- Bytes put one after the other, with the room and the length that is kept; loops that put bytes after bytes. Assumes nothing.
-use Rattle.meaning.proofs.Prelude.{ℕ, ◌+◌, ◌≤◌, ◌≡◌, refl, sym, ap, ◌∙◌, subst, ap₂, List, [], ◌++◌, length, length-append, take, drop, add-zero, arith}
+use Rattle.meaning.proofs.Prelude.{ℕ, ◌+◌, ◌≤◌, ◌≡◌, refl, sym, ap, ◌∙◌, subst, ap₂, List, [], ◌++◌, length, length-append, add-zero, arith}
 use Rattle.byte_runs.specs.Pasted.{pasted, Put}
-use Rattle.byte_runs.proofs.Pasted.{pasted-nil, length-pasted, take-pasted, pasted-append}
+use Rattle.byte_runs.proofs.Pasted.{pasted-nil, length-pasted, pasted-append}
 
 -- nothing is put
 pub put_none : (out : List ℕ) (at : ℕ) → Put out at [] out at
 put_none out at = (sym (pasted-nil out at), sym (add-zero at))
-
--- bytes that are put from the start on are the first, and end inside
-module _ (out bytes : List ℕ) {after : List ℕ} {n : ℕ} (put : Put out 0 bytes after n) where
-  pub put_taken : take n after ≡ bytes
-  put_taken = ap₂ (λ (k : ℕ) (l : List ℕ). take k l) put.1 put.0 ∙ take-pasted out 0 bytes (omega arith)
-
-  pub put_inside : n ≤ length after
-  unfolding pasted
-  put_inside =
-      let whole : length after ≡ length (bytes ++ drop (0 + length bytes) out) = ap length put.0 in
-      omega (arith, put.1, whole, length-append bytes (drop (0 + length bytes) out))
 
 -- the length is kept
 pub put_length : (out : List ℕ) (at : ℕ) (bytes : List ℕ) {mid : List ℕ} {next : ℕ}

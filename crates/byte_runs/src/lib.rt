@@ -94,17 +94,6 @@ pub fn zero_words(part: &mut [u16])
     }
 }
 
-// Puts one number into each place.
-pub fn fill(part: &mut [u32], n: u32)
-    ensures { part.new ≡ replicate (length part.old) n }
-{
-    let mut i = 0;
-    while i < part.len() {
-        part[i] = n;
-        i += 1;
-    }
-}
-
 // Copies words to the front of a buffer.
 pub fn copy_words(to: &mut [u16], from: &[u16])
     requires { length from.now ≤ length to.old }

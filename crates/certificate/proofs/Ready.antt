@@ -7,9 +7,9 @@ use Rattle.parser.proofs.Limits.{predicates_known, states-some}
 use Rattle.byte_runs.proofs.Written.{holds-room, holds-first}
 use Rattle.acceptance.proofs.Handed.{few-predicates, narrow-predicates}
 use Rattle.analysis.specs.declared.Analysis.{Analysis}
-use Rattle.analysis.specs.Given.{given, Filled, StatesOf}
+use Rattle.analysis.specs.Given.{given, Filled}
 use Rattle.analysis.proofs.Done.{accepted-is, holds-states, holds-marks, holds-verdicts}
-use Rattle.analysis.proofs.Sizes.{states_of_lem, states-few, preds_stand, preds-few, preds-narrow, model-length}
+use Rattle.analysis.proofs.Shown.{shown-few, preds_fit, preds-few, preds-narrow, marks-size}
 use Rattle.sheet_writer.specs.declared.Fit.{Fit}
 use Rattle.sheet_writer.specs.Fits.{sheet_of, if_room, fit_of}
 use Rattle.certificate.proofs.Ends.{sheet_for}
@@ -32,27 +32,24 @@ module _ {file : List ℕ} {known : Known} {found : List ℕ} {before after : Bu
         verdicts_are = holds-verdicts file before after r h.is h.zero;
       }
 
-  known_of : StatesOf file known (length found)
-  known_of = states_of_lem (filled.answer, h.knows, h.states)
-
   module _ {p : ℕ} (e : p ≡ get_or known.counts 4 0) where
     abbrev preds : List ℕ
     preds = take p known.predicates
 
     -- the predicates' arities stand in their array, are few and narrow
     pub arities_fit : p ≤ length known.predicates
-    arities_fit = preds_stand known_of e
+    arities_fit = preds_fit filled h.knows e
 
     pub arities-long : p ≡ length preds
     arities-long = sym (length-take-le p known.predicates arities_fit)
 
     pub cells-asked : (length found ≤ 16) × (length preds ≤ 32) × All (λ n. n ≤ 4) preds
-    cells-asked = (states-few known_of, preds-few known_of e, preds-narrow known_of e)
+    cells-asked = (shown-few filled h.knows, preds-few filled h.knows e, preds-narrow filled h.knows e)
 
     -- the marks of the model stand in front
     module _ {size : ℕ} (cut : size ≡ cells (length found) preds) where
       pub marks_fit : size ≤ length after.marks
-      marks_fit = holds-room (model_of file) after.marks filled.marks_are (cut ∙ model-length known_of e)
+      marks_fit = holds-room (model_of file) after.marks filled.marks_are (marks-size filled h.knows e cut)
 
       pub marks-long : size ≡ length (take size after.marks)
       marks-long = sym (length-take-le size after.marks marks_fit)
@@ -60,7 +57,7 @@ module _ {file : List ℕ} {known : Known} {found : List ℕ} {before after : Bu
       pub sheet-asked : (1 ≤ length found) × (length found ≤ 16) × (length preds ≤ 16) × All (λ n. n ≤ 3) preds × (length (take size after.marks) ≡ cells (length found) preds)
       sheet-asked = (
         subst (λ (l : List ℕ). 1 ≤ length l) (sym h.states) (states-some file filled.answer),
-        states-few known_of,
+        shown-few filled h.knows,
         subst (λ (n : ℕ). length (take n known.predicates) ≤ 16) (sym e) (few-predicates file known filled.answer h.knows),
         subst (λ (n : ℕ). All (λ k. k ≤ 3) (take n known.predicates)) (sym e) (narrow-predicates file known filled.answer h.knows),
         sym marks-long ∙ cut,
@@ -71,7 +68,7 @@ module _ {file : List ℕ} {known : Known} {found : List ℕ} {before after : Bu
       unfolding atoms_of
       sheet-is =
           let arities = ap (λ (n : ℕ). take n known.predicates) e ∙ predicates_known file filled.answer known h.knows in
-          let marks = holds-first (model_of file) after.marks filled.marks_are (cut ∙ model-length known_of e) in
+          let marks = holds-first (model_of file) after.marks filled.marks_are (marks-size filled h.knows e cut) in
           λ i. sheet_of (h.states i) (arities i) (marks i)
 
       pub put_is : (sheet : List ℕ) {r : Fit} {sheet' : List ℕ}

@@ -2,15 +2,10 @@
 use Rattle.std.specs.Prelude.{ℕ, List}
 use Rattle.meaning.specs.Refusals.{refused}
 use Rattle.meaning.specs.Calls.{Buffers, Analysed, Written, Lent, Checked}
-use Rattle.meaning.specs.Tracing.{TraceBuffers, Traced}
 
 abbrev pub analysis : ℕ → ℕ → ℕ → ℕ → ℕ → Buffers → Analysed
 analysis number place states atoms rounds after =
     record { answer = refused number place; states = states; atoms = atoms; rounds = rounds; after = after }
-
-abbrev pub tracing : ℕ → ℕ → ℕ → ℕ → ℕ → TraceBuffers → Traced
-tracing number place states atoms rounds after =
-    record { analysis = analysis number place states atoms rounds after.analysis; clauses = after.clauses; rounds = after.rounds }
 
 abbrev pub writing : ℕ → ℕ → ℕ → ℕ → ℕ → ℕ → Buffers → List ℕ → Written
 writing number place states atoms rounds bytes after sheet =

@@ -1,8 +1,7 @@
-// The public calls for C and Rust: functions on numbers and slices. Each answers the number; the place and the counts come through references.
+// The three public calls for C and Rust: functions on numbers and slices. Each answers the number; the place and the counts come through references.
 ghost use Rattle.std.specs.Prelude.{◌≡◌};
 ghost use Rattle.meaning.specs.Calls.{analysed, checked, WrittenInOrder};
-ghost use Rattle.meaning.specs.Tracing.{traced};
-ghost use Rattle.exports.specs.Numbers.{analysis, tracing, writing, check};
+ghost use Rattle.exports.specs.Numbers.{analysis, writing, check};
 
 // Analyses a rule file: its states, tables, model and verdicts.
 #[unsafe(no_mangle)]
@@ -25,32 +24,6 @@ pub extern "C" fn rules_analyse(
     *count = found.states;
     *atoms = found.atoms;
     *rounds = found.rounds;
-    answer.number
-}
-
-// Analyses a rule file, with the clause and the round of each atom of its model.
-#[unsafe(no_mangle)]
-pub extern "C" fn rules_trace(
-    file: &[u8],
-    states: &mut [u16],
-    tables: &mut [u8],
-    marks: &mut [u8],
-    verdicts: &mut [u8],
-    clauses: &mut [u8],
-    rounds: &mut [u32],
-    place: &mut usize,
-    count: &mut usize,
-    atoms: &mut usize,
-    total: &mut usize,
-) -> usize
-    ensures { tracing result place.new count.new atoms.new total.new (record { analysis = record { states = states.exit.now; tables = tables.new; marks = marks.new; verdicts = verdicts.new }; clauses = clauses.new; rounds = rounds.new }) ≡ traced file.now (record { analysis = record { states = states.entry.now; tables = tables.old; marks = marks.old; verdicts = verdicts.old }; clauses = clauses.old; rounds = rounds.old }) }
-{
-    let marked = trace::analyse(file, states, tables, marks, verdicts, clauses, rounds);
-    let answer = marked.answer;
-    *place = answer.place;
-    *count = marked.states;
-    *atoms = marked.atoms;
-    *total = marked.rounds;
     answer.number
 }
 

@@ -1,4 +1,1 @@
 pub mod Paths
-pub mod Texts
-pub mod Lines
-pub mod Outcomes

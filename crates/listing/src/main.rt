@@ -1,5 +1,5 @@
 // Reads a rule file on standard input and prints its listing: its states, model and verdicts, or its refusal.
-ghost use Rattle.std.specs.Prelude.{◌≤◌, ◌≡◌, length};
+ghost use Rattle.std.specs.Prelude.{◌+◌, ◌≤◌, ◌≡◌, length};
 ghost use Rattle.meaning.specs.Calls.{rounds_of, atoms_of};
 ghost use Rattle.declarations.specs.Known.{Knows, fields_read};
 ghost use Rattle.listing_text.specs.Listing.{Results};
@@ -7,6 +7,18 @@ ghost use Rattle.analysis.specs.Given.{Filled};
 
 use declarations::Known;
 use libc::{STDIN_FILENO, STDOUT_FILENO};
+
+// Where the next piece is put: after the last one, or at the start of the buffer, which is written out where it has no room for a piece.
+fn flush(out: &[u8], at: usize) -> usize
+    requires { (at ≤ length out.now) × (128 ≤ length out.now) }
+    ensures { result + 128 ≤ length out.now }
+{
+    if out.len() - at < listing_text::PIECE {
+        io::write_all(STDOUT_FILENO, &out[..at]);
+        return 0;
+    }
+    at
+}
 
 // The pieces of the listing one after the other, as many at a time as the buffer holds.
 fn print_pieces(
@@ -25,7 +37,7 @@ fn print_pieces(
     let mut at = 0;
     let mut k = 0;
     while k < count {
-        let next = printing::flush(out, at);
+        let next = flush(out, at);
         at = listing_text::put_piece(
             out, next, k, file, known, states, marks, verdicts, atoms, rounds,
         );
@@ -50,8 +62,10 @@ fn print_results(
     let reading = parser::read(file);
     let known = reading.known;
     let counts = known.counts;
+    let predicates = known.predicates;
+    let p = byte_runs::wide(counts[declarations::PREDICATES]);
     let queries = byte_runs::wide(counts[declarations::QUERIES]);
-    let size = analysis::domain_atoms(known, m);
+    let size = cells::cells_of(&predicates[..p], m);
     print_pieces(
         file,
         known,
@@ -75,10 +89,11 @@ fn list(
 )
     requires { 128 ≤ length out.old }
 {
-    let r = analysis::analyse(file, states, tables, marks, verdicts);
-    let answer = r.answer;
-    let n = listing_text::put_answer(out, answer.number, answer.place);
+    let answered = listing_answer::answer(file, states, tables, marks, verdicts, out);
+    let n = answered.text;
     io::write_all(STDOUT_FILENO, &out[..n]);
+    let r = answered.analysis;
+    let answer = r.answer;
     if answer.number != 0 {
         return;
     }

@@ -1,4 +1,4 @@
--- The atom of a predicate at a cell of its segment: what its row and its name are found from, and that it is short. Assumes nothing.
+-- The atom of a predicate at a cell of its segment: what its row and its name are found from, and that its line is short. Assumes nothing.
 use Rattle.meaning.proofs.Prelude.{ℕ, ◌≤◌, ◌-◌, ◌<◌, ◌^◌, ◌≡◌, sym, ap, ◌∙◌, subst, ap₂, List, [], ◌∷◌, ◌++◌, length, length-append, get_or, take, drop}
 use Rattle.meaning.proofs.Prelude.{replicate, take_at, arith}
 use Rattle.meaning.proofs.Loops.{part-rest}
@@ -8,7 +8,8 @@ use Rattle.meaning.proofs.Cells.{length-row_of, row_of_range}
 use Rattle.fields.specs.Found.{nth_in}
 use Rattle.declarations.specs.declared.Known.{Known}
 use Rattle.declarations.specs.Known.{Knows, fields_read}
-use Rattle.listing_text.specs.Lines.{named_text, atom_text}
+use Rattle.listing_text.specs.Lines.{named_text}
+use Rattle.listing_text.specs.Listing.{atom_line}
 use Rattle.listing_text.proofs.Sizes.{named-short}
 use Rattle.parser.proofs.Limits.{accepted-few, predicates-small, states-some}
 use Rattle.listing_text.proofs.Found.{arity_known, NameIn, predicate-name}
@@ -61,16 +62,18 @@ module _ (file : List ℕ) (e : file_answer file ≡ accepted) (known : Known) (
             )
 
         -- the name and the row are the atom's
-        pub line_is : named_text (take (length content - 1) (drop 1 content)) (take n row) ≡ atom_text (names (rules_of file).predicates) (p ∷ row_of m arity c)
-        line_is =
+        pub line-is : named_text (take (length content - 1) (drop 1 content)) (take n row) ≡ atom_line file (p ∷ row_of m arity c)
+        unfolding atom_line
+        line-is =
             ap₂
             named_text
             (part-rest 1 content ∙ ap (drop 1) content-is ∙ named.name)
             (ap (take n) row_is ∙ row_taken m (get_or known.predicates p 0) c (4 - get_or known.predicates p 0) n n-is ∙ ap (λ (k : ℕ). row_of m k c) arity-is)
 
-        pub line_short : length (named_text (take (length content - 1) (drop 1 content)) (take n row)) ≤ 32
-        line_short =
-            subst (λ (l : List ℕ). length l ≤ 32) (sym line_is)
+        pub line-short : length (named_text (take (length content - 1) (drop 1 content)) (take n row)) ≤ 128
+        unfolding atom_line
+        line-short =
+            subst (λ (l : List ℕ). length l ≤ 128) (sym line-is)
             (named-short (get_or (names (rules_of file).predicates) p []) (row_of m arity c)
             (subst (λ (l : List ℕ). length l ≤ 8) named.name named.short)
             (omega (arith, length-row_of m arity c, arity-small))

@@ -1,20 +1,17 @@
--- The listings that 01 and 02 print for rule set E; those of a file whose one state has no type, of one with atoms of arities 0 and 2, of one
--- with two rounds, of one with an empty model, and of two refused files. Proved by computing the definition. Assumes nothing.
-use Rattle.meaning.proofs.Prelude.{ℕ, Bool, ◌&&◌, List, [], ◌∷◌, T}
+-- The listing that 01 prints for rule set E; those of a file whose one state has no type, of one with atoms of arities 0 and 2, and of two
+-- refused files. Proved by computing the definition. Assumes nothing.
+use Rattle.meaning.proofs.Prelude.{ℕ, Bool, List, [], ◌∷◌, T}
 use Rattle.meaning.proofs.Definitions.{all_of, same, fields, first_field, term_within, read_terms, read_atom, read_atoms, read_clause, read_conditions}
 use Rattle.meaning.proofs.Definitions.{read_query, refusal, first_refused, signature, step, determinise, cell_of, rules_in, rules_of, states_for}
 use Rattle.meaning.proofs.Definitions.{read_answer, file_answer, brings, next, stage, rounds, model, is_open, marked_atoms, symbol_arities}
 use Rattle.meaning.proofs.Definitions.{predicate_arities, states_of, step_of, interpretation_of, rounds_of, model_of, atoms_of, verdict_of, verdicts_of}
-use Rattle.meaning.proofs.Definitions.{first_stage, lowest_clause, round_mark, clause_mark, round_marks, clause_marks, round_marks_of, clause_marks_of}
-use Rattle.text.specs.Decimal.{digits_in, decimal, number_after}
-use Rattle.listing_text.specs.Lines.{count_line, counts_line, refused_line, state_text, named_text, query_text}
+use Rattle.text.specs.Decimal.{digits_in, decimal}
+use Rattle.listing_text.specs.Lines.{number_after, count_line, counts_line, refused_line, state_text, named_text, query_text}
 use Rattle.listing_text.specs.Listing.{states_line, state_line, model_line, atom_line, queries_line, query_line, listing}
-use Rattle.listing_text.specs.Origins.{origin_line, origins_answer, origins_listing}
 
 record Row : Type 0 where
   file : List ℕ
   prints : List ℕ
-  origins : List ℕ
 
 -- rule set E, from 01's bytes, and what 01 prints for it: states 2, 0 even, 1 odd, model 1 rounds 1, p 0, queries 2, 0 CLEAR, 1 OPEN
 E : List ℕ
@@ -57,41 +54,6 @@ printed_row_order =
     ∷ 0x64 ∷ 0x20 ∷ 0x61 ∷ 0x6E ∷ 0x79 ∷ 0x0A ∷ 0x6D ∷ 0x6F ∷ 0x64 ∷ 0x65 ∷ 0x6C ∷ 0x20 ∷ 0x32 ∷ 0x20 ∷ 0x72 ∷ 0x6F ∷ 0x75 ∷ 0x6E ∷ 0x64 ∷ 0x73 ∷ 0x20 ∷ 0x31 ∷ 0x0A ∷ 0x72
     ∷ 0x0A ∷ 0x70 ∷ 0x20 ∷ 0x30 ∷ 0x20 ∷ 0x31 ∷ 0x0A ∷ 0x71 ∷ 0x75 ∷ 0x65 ∷ 0x72 ∷ 0x69 ∷ 0x65 ∷ 0x73 ∷ 0x20 ∷ 0x31 ∷ 0x0A ∷ 0x30 ∷ 0x20 ∷ 0x4F ∷ 0x50 ∷ 0x45 ∷ 0x4E ∷ 0x0A ∷ []
 
--- a constant a, predicates q/0 and p/0, clauses q if p, and p: states 1, 0 -, model 2 rounds 2, q, p, queries 0
-two_rounds : List ℕ
-two_rounds =
-    0x01 ∷ 0x00 ∷ 0x02 ∷ 0x00 ∷ 0x61 ∷ 0x04 ∷ 0x00 ∷ 0x02 ∷ 0x00 ∷ 0x71 ∷ 0x04 ∷ 0x00 ∷ 0x02 ∷ 0x00 ∷ 0x70 ∷ 0x05 ∷ 0x00 ∷ 0x04 ∷ 0x00 ∷ 0x01 ∷ 0x00 ∷ 0x01 ∷ 0x05 ∷ 0x00
-    ∷ 0x03 ∷ 0x00 ∷ 0x00 ∷ 0x01 ∷ []
-
-printed_two_rounds : List ℕ
-printed_two_rounds =
-    0x73 ∷ 0x74 ∷ 0x61 ∷ 0x74 ∷ 0x65 ∷ 0x73 ∷ 0x20 ∷ 0x31 ∷ 0x0A ∷ 0x30 ∷ 0x20 ∷ 0x2D ∷ 0x0A ∷ 0x6D ∷ 0x6F ∷ 0x64 ∷ 0x65 ∷ 0x6C ∷ 0x20 ∷ 0x32 ∷ 0x20 ∷ 0x72 ∷ 0x6F ∷ 0x75
-    ∷ 0x6E ∷ 0x64 ∷ 0x73 ∷ 0x20 ∷ 0x32 ∷ 0x0A ∷ 0x71 ∷ 0x0A ∷ 0x70 ∷ 0x0A ∷ 0x71 ∷ 0x75 ∷ 0x65 ∷ 0x72 ∷ 0x69 ∷ 0x65 ∷ 0x73 ∷ 0x20 ∷ 0x30 ∷ 0x0A ∷ []
-
--- a constant a and a predicate p/1: states 1, 0 -, model 0 rounds 0, queries 0
-empty_model : List ℕ
-empty_model = 0x01 ∷ 0x00 ∷ 0x02 ∷ 0x00 ∷ 0x61 ∷ 0x04 ∷ 0x00 ∷ 0x02 ∷ 0x01 ∷ 0x70 ∷ []
-
-printed_empty_model : List ℕ
-printed_empty_model =
-    0x73 ∷ 0x74 ∷ 0x61 ∷ 0x74 ∷ 0x65 ∷ 0x73 ∷ 0x20 ∷ 0x31 ∷ 0x0A ∷ 0x30 ∷ 0x20 ∷ 0x2D ∷ 0x0A ∷ 0x6D ∷ 0x6F ∷ 0x64 ∷ 0x65 ∷ 0x6C ∷ 0x20 ∷ 0x30 ∷ 0x20 ∷ 0x72 ∷ 0x6F ∷ 0x75
-    ∷ 0x6E ∷ 0x64 ∷ 0x73 ∷ 0x20 ∷ 0x30 ∷ 0x0A ∷ 0x71 ∷ 0x75 ∷ 0x65 ∷ 0x72 ∷ 0x69 ∷ 0x65 ∷ 0x73 ∷ 0x20 ∷ 0x30 ∷ 0x0A ∷ []
-
--- what the second listing prints, for E as 02 has it: p 0 clause 0 round 1; p 0 clause 0 round 1; r clause 0 round 1, p 0 1 clause 1 round 1;
--- q clause 0 round 2, p clause 1 round 1
-origins_e : List ℕ
-origins_e = 0x70 ∷ 0x20 ∷ 0x30 ∷ 0x20 ∷ 0x63 ∷ 0x6C ∷ 0x61 ∷ 0x75 ∷ 0x73 ∷ 0x65 ∷ 0x20 ∷ 0x30 ∷ 0x20 ∷ 0x72 ∷ 0x6F ∷ 0x75 ∷ 0x6E ∷ 0x64 ∷ 0x20 ∷ 0x31 ∷ 0x0A ∷ []
-
-origins_row_order : List ℕ
-origins_row_order =
-    0x72 ∷ 0x20 ∷ 0x63 ∷ 0x6C ∷ 0x61 ∷ 0x75 ∷ 0x73 ∷ 0x65 ∷ 0x20 ∷ 0x30 ∷ 0x20 ∷ 0x72 ∷ 0x6F ∷ 0x75 ∷ 0x6E ∷ 0x64 ∷ 0x20 ∷ 0x31 ∷ 0x0A ∷ 0x70 ∷ 0x20 ∷ 0x30 ∷ 0x20 ∷ 0x31
-    ∷ 0x20 ∷ 0x63 ∷ 0x6C ∷ 0x61 ∷ 0x75 ∷ 0x73 ∷ 0x65 ∷ 0x20 ∷ 0x31 ∷ 0x20 ∷ 0x72 ∷ 0x6F ∷ 0x75 ∷ 0x6E ∷ 0x64 ∷ 0x20 ∷ 0x31 ∷ 0x0A ∷ []
-
-origins_two_rounds : List ℕ
-origins_two_rounds =
-    0x71 ∷ 0x20 ∷ 0x63 ∷ 0x6C ∷ 0x61 ∷ 0x75 ∷ 0x73 ∷ 0x65 ∷ 0x20 ∷ 0x30 ∷ 0x20 ∷ 0x72 ∷ 0x6F ∷ 0x75 ∷ 0x6E ∷ 0x64 ∷ 0x20 ∷ 0x32 ∷ 0x0A ∷ 0x70 ∷ 0x20 ∷ 0x63 ∷ 0x6C ∷ 0x61
-    ∷ 0x75 ∷ 0x73 ∷ 0x65 ∷ 0x20 ∷ 0x31 ∷ 0x20 ∷ 0x72 ∷ 0x6F ∷ 0x75 ∷ 0x6E ∷ 0x64 ∷ 0x20 ∷ 0x31 ∷ 0x0A ∷ []
-
 -- the empty file: refused 7 at 0; a cut field: refused 2 at 0
 printed_empty : List ℕ
 printed_empty = 0x72 ∷ 0x65 ∷ 0x66 ∷ 0x75 ∷ 0x73 ∷ 0x65 ∷ 0x64 ∷ 0x20 ∷ 0x37 ∷ 0x20 ∷ 0x61 ∷ 0x74 ∷ 0x20 ∷ 0x30 ∷ 0x0A ∷ []
@@ -101,18 +63,16 @@ printed_cut = 0x72 ∷ 0x65 ∷ 0x66 ∷ 0x75 ∷ 0x73 ∷ 0x65 ∷ 0x64 ∷ 0x2
 
 rows : List Row
 rows =
-    record { file = E; prints = printed_e; origins = origins_e }
-    ∷ record { file = no_type; prints = printed_no_type; origins = origins_e }
-    ∷ record { file = row_order; prints = printed_row_order; origins = origins_row_order }
-    ∷ record { file = two_rounds; prints = printed_two_rounds; origins = origins_two_rounds }
-    ∷ record { file = empty_model; prints = printed_empty_model; origins = [] }
-    ∷ record { file = []; prints = printed_empty; origins = printed_empty }
-    ∷ record { file = 0x01 ∷ 0x00 ∷ 0x02 ∷ []; prints = printed_cut; origins = printed_cut }
+    record { file = E; prints = printed_e }
+    ∷ record { file = no_type; prints = printed_no_type }
+    ∷ record { file = row_order; prints = printed_row_order }
+    ∷ record { file = []; prints = printed_empty }
+    ∷ record { file = 0x01 ∷ 0x00 ∷ 0x02 ∷ []; prints = printed_cut }
     ∷ []
 
 holds : Row → Bool
-holds r = same (listing r.file) r.prints && same (origins_listing r.file) r.origins
+holds r = same (listing r.file) r.prints
 
 examples : T (all_of holds rows)
-unfolding rows holds E printed_e no_type printed_no_type row_order printed_row_order two_rounds printed_two_rounds empty_model printed_empty_model origins_e origins_row_order origins_two_rounds printed_empty printed_cut fields first_field term_within read_terms read_atom read_atoms read_clause read_conditions read_query refusal first_refused signature step determinise cell_of rules_in rules_of states_for read_answer file_answer brings next stage rounds model is_open marked_atoms symbol_arities predicate_arities states_of step_of interpretation_of rounds_of model_of atoms_of verdict_of verdicts_of digits_in decimal number_after count_line counts_line refused_line state_text named_text query_text states_line state_line model_line atom_line queries_line query_line listing first_stage lowest_clause round_mark clause_mark round_marks clause_marks round_marks_of clause_marks_of origin_line origins_answer origins_listing
+unfolding rows holds E printed_e no_type printed_no_type row_order printed_row_order printed_empty printed_cut fields first_field term_within read_terms read_atom read_atoms read_clause read_conditions read_query refusal first_refused signature step determinise cell_of rules_in rules_of states_for read_answer file_answer brings next stage rounds model is_open marked_atoms symbol_arities predicate_arities states_of step_of interpretation_of rounds_of model_of atoms_of verdict_of verdicts_of digits_in decimal number_after count_line counts_line refused_line state_text named_text query_text states_line state_line model_line atom_line queries_line query_line listing
 examples = tt

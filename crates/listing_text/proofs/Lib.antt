@@ -2,13 +2,9 @@ pub mod Texts
 pub mod Putting
 pub mod Sizes
 pub mod Pieces
-pub mod Marked
 pub mod Numbers
 pub mod Found
 pub mod Places
 pub mod AtomAt
 pub mod AtHand
 pub mod Examples
-pub mod Origins
-pub mod Answers
-pub mod Room

@@ -1,10 +1,10 @@
 -- The pieces one after the other are the listing of an accepted file; the listing of a refused file. Assumes nothing.
-use Rattle.meaning.proofs.Prelude.{ℕ, zero, suc, ◌^◌, ◌≡◌, refl, sym, ap, ◌∙◌, ap₂, ◌≢◌, cond, Bool, true, false, List, [], ◌∷◌, map, ◌++◌}
-use Rattle.meaning.proofs.Prelude.{map-append, length, ne_eqb}
+use Rattle.meaning.proofs.Prelude.{ℕ, ◌+◌, zero, suc, ◌^◌, ◌≡◌, refl, sym, ap, ◌∙◌, ap₂, ◌≢◌, cond, Bool, true, false, List, [], ◌∷◌, map, ◌++◌}
+use Rattle.meaning.proofs.Prelude.{map-append, append-nil, length, add-zero, ne_eqb}
 use Rattle.meaning.proofs.Definitions.{joined, table, row_of, marked, atoms_from, marked_atoms, Answer, accepted, ok, rules_of, file_answer}
 use Rattle.meaning.proofs.Definitions.{predicate_arities, states_of, model_of, atoms_of}
 use Rattle.meaning.proofs.Lists.{joined-append}
-use Rattle.meaning.proofs.MarkedAtoms.{table-get_or}
+use Rattle.meaning.proofs.MarkedAtoms.{table-get_or, table-append}
 use Rattle.listing_text.specs.Lines.{refused_line}
 use Rattle.listing_text.specs.Listing.{states_line, state_line, model_line, atom_line, queries_line, query_line, lines_with, listing, places_from, all_pieces, pieces, piece}
 
@@ -28,18 +28,17 @@ module _ (file : List ℕ) where
   abbrev m : ℕ
   m = length (states_of file)
 
-  -- the pieces of all places have the lines of the atoms
-  pub places-atoms : (line : List ℕ → List ℕ) (p : ℕ) (later : List ℕ)
-      → joined (places_from file line p later) ≡ joined (map line (atoms_from m (predicate_arities file) (model_of file) p later))
-  places-atoms line p [] = refl
-  places-atoms line p (n ∷ later) =
+  places-atoms : (p : ℕ) (later : List ℕ)
+      → joined (places_from file p later) ≡ joined (map (atom_line file) (atoms_from m (predicate_arities file) (model_of file) p later))
+  places-atoms p [] = refl
+  places-atoms p (n ∷ later) =
       let test : ℕ → Bool = λ c. marked m (predicate_arities file) (model_of file) p (row_of m n c) in
       let atoms : List (List ℕ) = joined (table (m ^ n) (λ c. cond (test c) ((p ∷ row_of m n c) ∷ []) [])) in
       let others : List (List ℕ) = atoms_from m (predicate_arities file) (model_of file) (suc p) later in
-      joined-append (table (m ^ n) (λ c. cond (test c) (line (p ∷ row_of m n c)) [])) (places_from file line (suc p) later)
-      ∙ ap₂ (λ (xs ys : List ℕ). xs ++ ys) (joined_chosen line (m ^ n) test (λ c. p ∷ row_of m n c)) (places-atoms line (suc p) later)
-      ∙ sym (joined-append (map line atoms) (map line others))
-      ∙ ap joined (sym (map-append line atoms others))
+      joined-append (table (m ^ n) (λ c. cond (test c) (atom_line file (p ∷ row_of m n c)) [])) (places_from file (suc p) later)
+      ∙ ap₂ (λ (xs ys : List ℕ). xs ++ ys) (joined_chosen (atom_line file) (m ^ n) test (λ c. p ∷ row_of m n c)) (places-atoms (suc p) later)
+      ∙ sym (joined-append (map (atom_line file) atoms) (map (atom_line file) others))
+      ∙ ap joined (sym (map-append (atom_line file) atoms others))
 
   -- the same text for the atoms
   lines_same : (xs ys : List (List ℕ)) → joined xs ≡ joined ys → joined (lines_with file xs) ≡ joined (lines_with file ys)
@@ -59,8 +58,15 @@ module _ (file : List ℕ) where
   unfolding pieces piece all_pieces listing atoms_of marked_atoms
   listing-pieces e =
       ap joined (table-get_or (all_pieces file) [])
-      ∙ lines_same (places_from file (atom_line file) 0 (predicate_arities file)) (map (atom_line file) (atoms_of file)) (places-atoms (atom_line file) 0 (predicate_arities file))
+      ∙ lines_same (places_from file 0 (predicate_arities file)) (map (atom_line file) (atoms_of file)) (places-atoms 0 (predicate_arities file))
       ∙ ap (λ (a : Answer). cond (ok a) (joined (lines_with file (map (atom_line file) (atoms_of file)))) (refused_line (file_answer file))) (sym e)
+
+  -- one piece more
+  pub pieces-next : (k : ℕ) → joined (table (k + 1) (piece file)) ≡ joined (table k (piece file)) ++ piece file k
+  pieces-next k =
+      ap joined (table-append k 1 (piece file))
+      ∙ joined-append (table k (piece file)) (piece file (k + 0) ∷ [])
+      ∙ ap (λ (l : List ℕ). joined (table k (piece file)) ++ l) (append-nil (piece file (k + 0)) ∙ ap (piece file) (add-zero k))
 
   -- The listing of a file that is refused.
   pub listing-refused : (file_answer file).number ≢ 0 → listing file ≡ refused_line (file_answer file)

@@ -27,8 +27,8 @@ module _ (out : List ℕ) (at : ℕ) (one two : List ℕ) (fits : at + length (o
     line_second = put_room out at one two line_both first
 
     module _ {mid₂ : List ℕ} {next₂ : ℕ} (second : Put mid next two mid₂ next₂) where
-      pub line_last : next₂ < length mid₂
-      line_last = omega (arith, put_room out at (one ++ two) (line_end ∷ []) fits (put_then out at one two line_both first second))
+      pub line-last : next₂ < length mid₂
+      line-last = omega (arith, put_room out at (one ++ two) (line_end ∷ []) fits (put_then out at one two line_both first second))
 
       pub line_put : {after : List ℕ} {end : ℕ} → Put mid₂ next₂ (line_end ∷ []) after end → Put out at (one ++ two ++ (line_end ∷ [])) after end
       line_put third = put_then out at (one ++ two) (line_end ∷ []) fits (put_then out at one two line_both first second) third

@@ -1,9 +1,14 @@
 -- No line is longer than 128 bytes. Assumes nothing.
 use Rattle.meaning.proofs.Prelude.{ℕ, ◌+◌, ◌≤◌, ◌<◌, suc, ◌^◌, ◌*◌, cond, Bool, true, false, List, [], ◌∷◌, ◌++◌, eqb, length, length-append, arith}
 use Rattle.meaning.proofs.Definitions.{All, has}
-use Rattle.text.specs.Decimal.{decimal, number_after}
-use Rattle.text.proofs.Decimal.{length_most, length_u64, number_size}
-use Rattle.listing_text.specs.Lines.{space, line_end, open_word, clear_word, count_line, counts_line, held_name, held_names, or_dash, state_text, row_text, named_text, query_text}
+use Rattle.text.specs.Decimal.{decimal}
+use Rattle.text.proofs.Decimal.{length_most, length_u64}
+use Rattle.listing_text.specs.Lines.{space, line_end, open_word, clear_word, number_after, count_line, counts_line, held_name, held_names, or_dash, state_text, row_text, named_text, query_text}
+
+-- a number of 64 bits has at most 20 digits, one below 100 at most 2
+number_size : (word : List ℕ) (n : ℕ) → n < 2 ^ 64 → length (number_after word n) ≤ length word + 20
+unfolding number_after
+number_size word n h = omega (arith, length-append word (decimal n), length_u64 n h)
 
 count-size : (word : List ℕ) (n : ℕ) → n < 2 ^ 64 → length (count_line word n) ≤ length word + 21
 unfolding count_line
@@ -12,14 +17,14 @@ count-size word n h = omega (arith, length-append (number_after word n) (line_en
 pub count-short : (word : List ℕ) (n : ℕ) → length word ≤ 8 → n < 2 ^ 64 → length (count_line word n) ≤ 128
 count-short word n h k = omega (arith, count-size word n k)
 
-pub counts-size : (first : List ℕ) (a : ℕ) (second : List ℕ) (b : ℕ)
+pub counts-short : (first : List ℕ) (a : ℕ) (second : List ℕ) (b : ℕ)
     → length first ≤ 8
     → length second ≤ 8
     → a < 2 ^ 64
     → b < 2 ^ 64
-    → length (counts_line first a second b) ≤ 57
+    → length (counts_line first a second b) ≤ 128
 unfolding counts_line
-counts-size first a second b h k la lb =
+counts-short first a second b h k la lb =
     omega (arith, length-append (number_after first a) (count_line second b), number_size first a la, count-size second b lb)
 
 small_size : (n : ℕ) → n < 100 → length (decimal n) ≤ 2
@@ -74,9 +79,10 @@ row-size (d ∷ row) h =
       row-size row h.1,
     )
 
-pub named-short : (name row : List ℕ) → length name ≤ 8 → length row ≤ 3 → All (λ d. d < 100) row → length (named_text name row) ≤ 32
+pub named-short : (name row : List ℕ) → length name ≤ 8 → length row ≤ 3 → All (λ d. d < 100) row → length (named_text name row) ≤ 128
 unfolding named_text
-named-short name row short few h = omega (arith, length-append name (row_text row), row-size row h)
+named-short name row short few h =
+    omega (arith, length-append (name ++ row_text row) (line_end ∷ []), length-append name (row_text row), row-size row h)
 
 word_size : (verdict : ℕ) → length (cond (eqb verdict 0) clear_word open_word) ≤ 6
 word_size verdict = go (eqb verdict 0)

@@ -2,8 +2,7 @@
 use Rattle.meaning.proofs.Prelude.{ℕ, ◌+◌, ◌≤◌, ◌<◌, suc, ◌≡◌, refl, sym, ap, ◌∙◌, ◌≢◌, cond, Bool, true, false, List, [], ◌∷◌, ◌++◌, eqb, length}
 use Rattle.meaning.proofs.Prelude.{get_or, drop, drop_of_length-le, drop-cons, add-one, arith, ne_eqb, eq-eqb}
 use Rattle.meaning.specs.Types.{has}
-use Rattle.text.specs.Decimal.{number_after}
-use Rattle.listing_text.specs.Lines.{space, open_word, clear_word, held_name, held_names, or_dash, row_text}
+use Rattle.listing_text.specs.Lines.{space, open_word, clear_word, number_after, held_name, held_names, or_dash, row_text}
 
 -- a type that the state holds, and one that it does not
 pub held_yes : (state t : ℕ) (name : List ℕ) → has state t ≡ true → held_name state t name ≡ (space ∷ []) ++ name

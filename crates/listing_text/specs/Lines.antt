@@ -3,7 +3,7 @@
 use Rattle.std.specs.Prelude.{ℕ, zero, suc, cond, List, [], ◌∷◌, ◌++◌, eqb, length, get_or}
 use Rattle.meaning.specs.Types.{has}
 use Rattle.meaning.specs.Refusals.{Answer, ok}
-use Rattle.text.specs.Decimal.{decimal, number_after}
+use Rattle.text.specs.Decimal.{decimal}
 
 abbrev pub space : ℕ
 space = 32
@@ -11,7 +11,7 @@ space = 32
 abbrev pub line_end : ℕ
 line_end = 10
 
--- `states `, `model `, ` rounds `, `queries `, `refused `, ` at `, ` OPEN`, ` CLEAR`, ` -`, ` clause `, ` round ` in ASCII
+-- `states `, `model `, ` rounds `, `queries `, `refused `, ` at `, ` OPEN`, ` CLEAR`, ` -` in ASCII
 abbrev pub states_word : List ℕ
 states_word = 115 ∷ 116 ∷ 97 ∷ 116 ∷ 101 ∷ 115 ∷ 32 ∷ []
 
@@ -39,13 +39,10 @@ clear_word = 32 ∷ 67 ∷ 76 ∷ 69 ∷ 65 ∷ 82 ∷ []
 abbrev pub dash_word : List ℕ
 dash_word = 32 ∷ 45 ∷ []
 
-abbrev pub clause_word : List ℕ
-clause_word = 32 ∷ 99 ∷ 108 ∷ 97 ∷ 117 ∷ 115 ∷ 101 ∷ 32 ∷ []
+-- a word and a number; a line of one such pair; a line of two
+unfoldable pub number_after : List ℕ → ℕ → List ℕ
+number_after word n = word ++ decimal n
 
-abbrev pub round_word : List ℕ
-round_word = 32 ∷ 114 ∷ 111 ∷ 117 ∷ 110 ∷ 100 ∷ 32 ∷ []
-
--- a line of a word and a number; a line of two such pairs
 unfoldable pub count_line : List ℕ → ℕ → List ℕ
 count_line word n = number_after word n ++ (line_end ∷ [])
 
@@ -84,7 +81,7 @@ row_text (d ∷ row) = number_after (space ∷ []) d ++ row_text row
 
 -- an atom, the predicate followed by the row of states: the predicate's name, then the states
 unfoldable pub named_text : List ℕ → List ℕ → List ℕ
-named_text name row = name ++ row_text row
+named_text name row = name ++ row_text row ++ (line_end ∷ [])
 
 abbrev pub atom_text : List (List ℕ) → List ℕ → List ℕ
 atom_text names [] = []

@@ -1,25 +1,20 @@
 // The lines of a listing, put piece by piece into a buffer. Each function that puts answers the position past what it put.
 ghost use Rattle.std.specs.Prelude.{ℕ, ◌+◌, ◌^◌, ◌≤◌, ◌<◌, ◌≡◌, cond, List, ◌∷◌, eqb, length, get_or};
-ghost use Rattle.meaning.specs.Lists.{All, same};
-ghost use Rattle.meaning.specs.Legal.{names};
+ghost use Rattle.meaning.specs.Lists.{All};
 ghost use Rattle.meaning.specs.Cells.{row_of, start, cells};
 ghost use Rattle.meaning.specs.Refusals.{accepted, refused};
 ghost use Rattle.meaning.specs.Files.{rules_of, file_answer};
 ghost use Rattle.meaning.specs.Calls.{predicate_arities, states_of, rounds_of, model_of, atoms_of};
 ghost use Rattle.declarations.specs.Known.{Knows, fields_read};
 ghost use Rattle.byte_runs.specs.Pasted.{Put};
-ghost use Rattle.listing_text.specs.Lines.{open_word, clear_word, count_line, counts_line, refusal_text, held_name, held_names, or_dash, state_text, row_text, named_text, atom_text, query_text, states_text, queries_text};
-ghost use Rattle.listing_text.specs.Listing.{place_line, model_text, pieces, piece, At, Results};
-ghost use Rattle.listing_text.specs.Origins.{origin_piece, Origins};
+ghost use Rattle.listing_text.specs.Lines.{open_word, clear_word, number_after, count_line, counts_line, refused_line, held_name, held_names, or_dash, state_text, row_text, named_text, query_text, states_text, queries_text};
+ghost use Rattle.listing_text.specs.Listing.{atom_line, place_line, model_text, pieces, piece, Results};
 
 use automaton::TypeSet;
 use declarations::Known;
 
 // No piece has more bytes.
 pub const PIECE: usize = 128;
-
-// The most domain atoms of a file whose atoms are listed with their clauses and rounds.
-pub const MOST_TRACED: usize = 16384;
 
 // The pieces that are a heading: `states`, `model`, `queries`.
 const HEADINGS: usize = 3;
@@ -35,12 +30,21 @@ struct Place {
     cell: usize,
 }
 
+// A word and a number.
+fn put_number(out: &mut [u8], at: usize, word: &[u8], n: usize) -> usize
+    requires { at + length (number_after word.now n) ≤ length out.old }
+    ensures { Put out.old at (number_after word.now n) out.new result }
+{
+    let next = byte_runs::put_bytes(out, at, word);
+    text::put_decimal(out, next, n)
+}
+
 // A line of a word and a number.
 fn put_count(out: &mut [u8], at: usize, word: &[u8], n: usize) -> usize
     requires { at + length (count_line word.now n) ≤ length out.old }
     ensures { Put out.old at (count_line word.now n) out.new result }
 {
-    let next = text::put_number(out, at, word, n);
+    let next = put_number(out, at, word, n);
     byte_runs::put_byte(out, next, LINE_END)
 }
 
@@ -49,28 +53,16 @@ fn put_counts(out: &mut [u8], at: usize, first: &[u8], a: usize, second: &[u8], 
     requires { at + length (counts_line first.now a second.now b) ≤ length out.old }
     ensures { Put out.old at (counts_line first.now a second.now b) out.new result }
 {
-    let next = text::put_number(out, at, first, a);
+    let next = put_number(out, at, first, a);
     put_count(out, next, second, b)
 }
 
-// What is printed of an answer, at the start of a buffer: `refused N at K`, or nothing with 0.
-pub fn put_answer(out: &mut [u8], number: usize, place: usize) -> usize
-    requires { 128 ≤ length out.old }
-    ensures { Put out.old 0 (refusal_text (refused number place)) out.new result }
+// `refused N at K`
+pub fn put_refusal(out: &mut [u8], at: usize, number: usize, place: usize) -> usize
+    requires { at + 128 ≤ length out.old }
+    ensures { Put out.old at (refused_line (refused number place)) out.new result × (result ≤ at + 128) }
 {
-    if number == 0 {
-        return 0;
-    }
-    put_counts(out, 0, b"refused ", number, b" at ", place)
-}
-
-// Whether a text is what is printed of an answer.
-pub fn is_answer(text: &[u8], number: usize, place: usize, out: &mut [u8]) -> bool
-    requires { 128 ≤ length out.old }
-    ensures { result ≡ same (refusal_text (refused number place)) text.now }
-{
-    let n = put_answer(out, number, place);
-    byte_runs::same(&out[..n], text)
+    put_counts(out, at, b"refused ", number, b" at ", place)
 }
 
 // A space and a type's name, if the state holds the type.
@@ -159,19 +151,20 @@ fn put_row(out: &mut [u8], at: usize, row: &[u8]) -> usize
     let mut next = at;
     let mut i = 0;
     while i < row.len() {
-        next = text::put_number(out, next, b" ", byte_runs::wide(row[i]));
+        next = put_number(out, next, b" ", byte_runs::wide(row[i]));
         i += 1;
     }
     next
 }
 
-// An atom, by its predicate's name and its row.
+// The line of an atom, by its predicate's name and its row.
 fn put_atom(out: &mut [u8], at: usize, name: &[u8], row: &[u8]) -> usize
     requires { at + length (named_text name.now row.now) ≤ length out.old }
     ensures { Put out.old at (named_text name.now row.now) out.new result }
 {
-    let next = byte_runs::put_bytes(out, at, name);
-    put_row(out, next, row)
+    let from = byte_runs::put_bytes(out, at, name);
+    let to = put_row(out, from, row);
+    byte_runs::put_byte(out, to, LINE_END)
 }
 
 // The predicate and the cell of place j of the marks.
@@ -190,7 +183,7 @@ fn place_of(arities: &[u8], m: usize, j: usize) -> Place
     Place { predicate: p, cell }
 }
 
-// The atom of predicate p at a cell of its segment.
+// The line of the atom of predicate p at a cell of its segment.
 fn put_cell(
     out: &mut [u8],
     at: usize,
@@ -201,8 +194,8 @@ fn put_cell(
     m: usize,
 ) -> usize
     requires file_value { (file_answer file.now ≡ accepted) × Knows known (fields_read file.now) × (m ≡ length (states_of file.now)) }
-    requires p_in_bounds { (p < length (predicate_arities file.now)) × (cell < m ^ get_or (predicate_arities file.now) p 0) × (at + 32 ≤ length out.old) }
-    ensures { Put out.old at (atom_text (names (rules_of file.now).predicates) (p ∷ row_of m (get_or (predicate_arities file.now) p 0) cell)) out.new result × (result ≤ at + 32) }
+    requires p_in_bounds { (p < length (predicate_arities file.now)) × (cell < m ^ get_or (predicate_arities file.now) p 0) × (at + 128 ≤ length out.old) }
+    ensures { Put out.old at (atom_line file.now (p ∷ row_of m (get_or (predicate_arities file.now) p 0) cell)) out.new result × (result ≤ at + 128) }
 {
     let starts = known.starts;
     let predicates = known.predicates;
@@ -213,21 +206,8 @@ fn put_cell(
     put_atom(out, at, &content[1..], &row[..n])
 }
 
-// The atom at place j of the marks.
-fn put_place(out: &mut [u8], at: usize, j: usize, file: &[u8], known: Known, m: usize) -> usize
-    requires file_value { (file_answer file.now ≡ accepted) × Knows known (fields_read file.now) × (m ≡ length (states_of file.now)) }
-    requires j_bound { (j < cells m (predicate_arities file.now)) × (at + 32 ≤ length out.old) }
-    ensures { ((p : ℕ) × (cell : ℕ) × At file.now j p cell × Put out.old at (atom_text (names (rules_of file.now).predicates) (p ∷ row_of (length (states_of file.now)) (get_or (predicate_arities file.now) p 0) cell)) out.new result) × (result ≤ at + 32) }
-{
-    let counts = known.counts;
-    let predicates = known.predicates;
-    let n = byte_runs::wide(counts[declarations::PREDICATES]);
-    let place = place_of(&predicates[..n], m, j);
-    put_cell(out, at, place.predicate, place.cell, file, known, m)
-}
-
 // The line of the atom at place j of the marks, if it is in the model.
-fn put_line(
+fn put_place(
     out: &mut [u8],
     at: usize,
     j: usize,
@@ -243,8 +223,11 @@ fn put_line(
     if marks[j] == 0 {
         return at;
     }
-    let next = put_place(out, at, j, file, known, m);
-    byte_runs::put_byte(out, next, LINE_END)
+    let counts = known.counts;
+    let predicates = known.predicates;
+    let n = byte_runs::wide(counts[declarations::PREDICATES]);
+    let place = place_of(&predicates[..n], m, j);
+    put_cell(out, at, place.predicate, place.cell, file, known, m)
 }
 
 // Piece k of the states: how many there are, then a line for each.
@@ -285,7 +268,7 @@ fn put_model(
     if j == 0 {
         return put_counts(out, at, b"model ", atoms, b" rounds ", rounds);
     }
-    put_line(out, at, j - 1, file, known, m, marks)
+    put_place(out, at, j - 1, file, known, m, marks)
 }
 
 // Piece i of the queries: how many there are, then a line for each.
@@ -333,29 +316,4 @@ pub fn put_piece(
         return put_model(out, at, j, file, known, m, marks, atoms, rounds);
     }
     put_queries(out, at, j - marks.len() - 1, verdicts)
-}
-
-// The line of the second listing for the atom at place j of the marks, if it is in the model: the atom, its clause and its round.
-pub fn put_origin(
-    out: &mut [u8],
-    at: usize,
-    j: usize,
-    file: &[u8],
-    known: Known,
-    m: usize,
-    marks: &[u8],
-    clauses: &[u8],
-    rounds: &[u32],
-) -> usize
-    requires origins { Origins file.now marks.now clauses.now rounds.now × Knows known (fields_read file.now) × (m ≡ length (states_of file.now)) }
-    requires j_in_bounds { (j < length marks.now) × (at + 128 ≤ length out.old) }
-    ensures { Put out.old at (origin_piece file.now j) out.new result × (result ≤ at + 128) }
-{
-    if marks[j] == 0 {
-        return at;
-    }
-    let next = put_place(out, at, j, file, known, m);
-    let clause = byte_runs::wide(clauses[j]);
-    let round = byte_runs::index(rounds[j]);
-    put_counts(out, next, b" clause ", clause, b" round ", round)
 }

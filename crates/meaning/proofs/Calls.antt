@@ -1,13 +1,12 @@
 -- The public calls: when each hands back 0, when each of 9 to 14, and what the buffers and counts are then. Assumes nothing.
-use Rattle.meaning.proofs.Prelude.{ℕ, ◌≤◌, ◌<◌, ◌≡◌, refl, sym, ap, ◌∙◌, subst, ◌≢◌, ⊎_elim, ◌⊎◌, inl, inr, ◌↔◌, cond, Bool, true, false, not}
+use Rattle.meaning.proofs.Prelude.{ℕ, ◌≤◌, ◌<◌, ◌≡◌, refl, sym, ap, ◌∙◌, subst, ◌≢◌, ⊎_elim, ◌⊎◌, inl, inr, ◌↔◌, Bool, true, false, not}
 use Rattle.meaning.proofs.Prelude.{◌&&◌, List, T, leb→le, eqb, eqb→eq, le→leb, length, length-map, ℕ_discrete, arith}
 use Rattle.meaning.proofs.Definitions.{cells, Answer, refused, accepted, ok, and_then, refuse_if, file_answer, rules_of, model, encode_sheet}
 use Rattle.meaning.proofs.Definitions.{answer_of_sheet, states_of, step_of, interpretation_of, symbol_arities, predicate_arities, tables_of, model_of}
 use Rattle.meaning.proofs.Definitions.{rounds_of, atoms_of, verdict_of, verdicts_of, holds, filled, Buffers, long_enough, LongEnough, analysis_done}
 use Rattle.meaning.proofs.Definitions.{Lent, lent_enough, LentEnough, analysis_answer, analysed, writing_answer, written_in, without_sheet}
-use Rattle.meaning.proofs.Definitions.{lent_answer, check_answer, check_done, checked, clause_marks, round_marks, clause_marks_of, round_marks_of, TraceBuffers}
-use Rattle.meaning.proofs.Definitions.{trace_enough, TraceEnough, trace_answer, traced, trace_done, analysed_with, Analysed, written}
-use Rattle.meaning.proofs.Lists.{decide, clash, both, both_of, cond_yes, cond_no, not_intro, not-not_intro, length-table}
+use Rattle.meaning.proofs.Definitions.{lent_answer, check_answer, check_done, checked}
+use Rattle.meaning.proofs.Lists.{decide, clash, both, both_of, cond_yes, cond_no, not_intro, not-not_intro}
 use Rattle.meaning.proofs.Answers.{then_next, then_first, if_no, file_number}
 use Rattle.meaning.proofs.Certificates.{check-number}
 use Rattle.meaning.proofs.States.{length-tables}
@@ -21,14 +20,6 @@ tables-length file = length-tables (step_of file) (states_of file) (symbol_ariti
 pub marks-length : (file : List ℕ) → length (model_of file) ≡ cells (length (states_of file)) (predicate_arities file)
 unfolding model_of model
 marks-length file = length-stage (length (states_of file)) (interpretation_of file) (predicate_arities file) (rules_of file).clauses _
-
-pub clauses-length : (file : List ℕ) → length (clause_marks_of file) ≡ cells (length (states_of file)) (predicate_arities file)
-unfolding clause_marks_of clause_marks
-clauses-length file = length-table (cells (length (states_of file)) (predicate_arities file)) _
-
-pub rounds-length : (file : List ℕ) → length (round_marks_of file) ≡ cells (length (states_of file)) (predicate_arities file)
-unfolding round_marks_of round_marks
-rounds-length file = length-table (cells (length (states_of file)) (predicate_arities file)) _
 
 pub verdicts-length : (file : List ℕ) → length (verdicts_of file) ≡ length (rules_of file).queries
 unfolding verdicts_of
@@ -80,29 +71,6 @@ lent_exact file before = (
       (le→leb _ _ (subst (λ (n : ℕ). n ≤ length before.tables) (sym (tables-length file)) l.tables))
       (le→leb _ _ (subst (λ (n : ℕ). n ≤ length before.marks) (sym (marks-length file)) l.marks)),
 )
-
-pub trace_exact : (file : List ℕ) (before : TraceBuffers) → T (trace_enough file before) ↔ TraceEnough file before
-trace_exact file before = (
-  λ t.
-      let u = both (long_enough file before.analysis && c) r t in
-      let w = both (long_enough file before.analysis) c u.0 in
-      record {
-        analysis = (long-exact file before.analysis).0 w.0;
-        clauses = subst (λ (n : ℕ). n ≤ length before.clauses) (clauses-length file) (leb→le _ _ w.1);
-        rounds = subst (λ (n : ℕ). n ≤ length before.rounds) (rounds-length file) (leb→le _ _ u.1);
-      },
-  λ l.
-      both_of (long_enough file before.analysis && c) r
-      (both_of (long_enough file before.analysis) c ((long-exact file before.analysis).1 l.analysis)
-      (le→leb _ _ (subst (λ (n : ℕ). n ≤ length before.clauses) (sym (clauses-length file)) l.clauses)))
-      (le→leb _ _ (subst (λ (n : ℕ). n ≤ length before.rounds) (sym (rounds-length file)) l.rounds)),
-)
-  where
-    c : Bool
-    c = holds before.clauses (clause_marks_of file)
-
-    r : Bool
-    r = holds before.rounds (round_marks_of file)
 
 -- a number that is 0, as a test
 pub ok-zero : (a : Answer) → T (ok a) ↔ (a.number ≡ 0)
@@ -157,34 +125,16 @@ nine e = omega arith
 fourteen : ◌≢◌ {A = ℕ} 14 0
 fourteen e = omega arith
 
--- 1 to 8, then 9: 0 exactly if the file is accepted and the buffers pass the test.
-pub nine_zero : (file : List ℕ) (long : Bool)
-    → ((and_then (file_answer file) (refuse_if (not long) 9 0)).number ≡ 0) ↔ (((file_answer file).number ≡ 0) × T long)
-nine_zero file long =
-    let short : Answer = refuse_if (not long) 9 0 in
-    let nine-or = unless_zero long 9 nine in (
-      λ e. let w = (then_zero (file_answer file) short).0 e in (w.0, nine-or.0 w.1),
-      λ w. (then_zero (file_answer file) short).1 (w.0, nine-or.1 w.1),
-    )
-
-nine_accepted : (file : List ℕ) (long : Bool)
-    → (and_then (file_answer file) (refuse_if (not long) 9 0)).number ≡ 0
-    → and_then (file_answer file) (refuse_if (not long) 9 0) ≡ accepted
-nine_accepted file long e =
-    let w = (nine_zero file long).0 e in
-    then_next (file_answer file) (refuse_if (not long) 9 0) w.0 ∙ if_no (not long) 9 0 (not-not_intro long w.1)
-
 -- An analysis hands back 0 exactly if the file is accepted and each buffer is long enough.
 pub analysis-zero : (file : List ℕ) (before : Buffers)
     → ((analysis_answer file before).number ≡ 0) ↔ (((file_answer file).number ≡ 0) × T (long_enough file before))
 unfolding analysis_answer
-analysis-zero file before = nine_zero file (long_enough file before)
-
--- So does one with the clause and the round of each atom.
-pub trace_zero : (file : List ℕ) (before : TraceBuffers)
-    → ((trace_answer file before).number ≡ 0) ↔ (((file_answer file).number ≡ 0) × T (trace_enough file before))
-unfolding trace_answer
-trace_zero file before = nine_zero file (trace_enough file before)
+analysis-zero file before =
+    let short : Answer = refuse_if (not (long_enough file before)) 9 0 in
+    let nine-or = unless_zero (long_enough file before) 9 nine in (
+      λ e. let w = (then_zero (file_answer file) short).0 e in (w.0, nine-or.0 w.1),
+      λ w. (then_zero (file_answer file) short).1 (w.0, nine-or.1 w.1),
+    )
 
 -- Writing a sheet does exactly if, besides, the sheet's buffer is long enough.
 pub writing-zero : (file : List ℕ) (before : Buffers) (sheet : List ℕ)
@@ -202,7 +152,12 @@ writing-zero file before sheet =
 pub lent_zero : (file : List ℕ) (before : Lent)
     → ((lent_answer file before).number ≡ 0) ↔ (((file_answer file).number ≡ 0) × T (lent_enough file before))
 unfolding lent_answer
-lent_zero file before = nine_zero file (lent_enough file before)
+lent_zero file before =
+    let short : Answer = refuse_if (not (lent_enough file before)) 9 0 in
+    let nine-or = unless_zero (lent_enough file before) 9 nine in (
+      λ e. let w = (then_zero (file_answer file) short).0 e in (w.0, nine-or.0 w.1),
+      λ w. (then_zero (file_answer file) short).1 (w.0, nine-or.1 w.1),
+    )
 
 -- A sheet check hands back 0 exactly if so it is, and none of 10 to 13 fits the sheet.
 pub check-zero : (file sheet : List ℕ) (before : Lent)
@@ -213,42 +168,26 @@ unfolding check_answer
 check-zero file sheet before = then_zero (lent_answer file before) _
 
 -- A refusal with 9 or less has a number below 10.
-nine_number : (file : List ℕ) (long : Bool) → (and_then (file_answer file) (refuse_if (not long) 9 0)).number < 10
-nine_number file long = go (decide (ok (file_answer file))) (not long)
-  where
-    last : (test : Bool) → (refuse_if test 9 0).number < 10
-    last true = omega arith
-    last false = omega arith
+refuse_below : (test : Bool) → (refuse_if test 9 0).number < 10
+refuse_below true = omega arith
+refuse_below false = omega arith
 
-    go : T (ok (file_answer file)) ⊎ T (not (ok (file_answer file))) → (test : Bool) → (and_then (file_answer file) (refuse_if test 9 0)).number < 10
-    go (inl t) test = subst (λ (x : Answer). x.number < 10) (sym (cond_yes (ok (file_answer file)) (refuse_if test 9 0) (file_answer file) t)) (last test)
-    go (inr t) test =
-        subst (λ (x : Answer). x.number < 10) (sym (cond_no (ok (file_answer file)) (refuse_if test 9 0) (file_answer file) t))
-        (let w = file_number file in omega (arith, w))
+then_below : (a b : Answer) (n : ℕ) → a.number < n → b.number < n → (and_then a b).number < n
+then_below a b n lta ltb = go (decide (ok a))
+  where
+    go : T (ok a) ⊎ T (not (ok a)) → (and_then a b).number < n
+    go (inl t) = subst (λ (x : Answer). x.number < n) (sym (cond_yes (ok a) b a t)) ltb
+    go (inr t) = subst (λ (x : Answer). x.number < n) (sym (cond_no (ok a) b a t)) lta
 
 pub analysis-number : (file : List ℕ) (before : Buffers) → (analysis_answer file before).number < 10
 unfolding analysis_answer
-analysis-number file before = nine_number file (long_enough file before)
+analysis-number file before = then_below (file_answer file) _ 10 (let w = file_number file in omega (arith, w)) (refuse_below (not (long_enough file before)))
 
 pub lent_number : (file : List ℕ) (before : Lent) → (lent_answer file before).number < 10
 unfolding lent_answer
-lent_number file before = nine_number file (lent_enough file before)
+lent_number file before = then_below (file_answer file) _ 10 (let w = file_number file in omega (arith, w)) (refuse_below (not (lent_enough file before)))
 
--- A refusal leaves an analysis's buffers untouched, and every count is 0; with 0 every needed byte is written, and bytes past the needed ones keep their
--- values.
-pub with_refused : (a : Answer) (file : List ℕ) (before : Buffers)
-    → a.number ≢ 0
-    → ((analysed_with a file before).after ≡ before)
-    × ((analysed_with a file before).states ≡ 0)
-    × ((analysed_with a file before).atoms ≡ 0)
-    × ((analysed_with a file before).rounds ≡ 0)
-with_refused a file before h =
-    let t = not-ok a h in
-    (cond_no (ok a) (filled file before) before t, cond_no (ok a) _ 0 t, cond_no (ok a) _ 0 t, cond_no (ok a) _ 0 t)
-
-with_done : {a : Answer} (file : List ℕ) (before : Buffers) → a ≡ accepted → analysed_with a file before ≡ analysis_done file before
-with_done file before e = ap (λ (a : Answer). analysed_with a file before) e
-
+-- A refusal leaves an analysis's buffers untouched, and every count is 0.
 pub analysis-refused : (file : List ℕ) (before : Buffers)
     → (analysis_answer file before).number ≢ 0
     → ((analysed file before).after ≡ before)
@@ -256,41 +195,32 @@ pub analysis-refused : (file : List ℕ) (before : Buffers)
     × ((analysed file before).atoms ≡ 0)
     × ((analysed file before).rounds ≡ 0)
 unfolding analysed
-analysis-refused file before = with_refused (analysis_answer file before) file before
+analysis-refused file before h =
+    let t = not-ok (analysis_answer file before) h in
+    let a : Bool = ok (analysis_answer file before) in
+    (cond_no a (filled file before) before t, cond_no a _ 0 t, cond_no a _ 0 t, cond_no a _ 0 t)
+
+-- With 0 every needed byte is written, and bytes past the needed ones keep their values.
+pub analysis-filled : (file : List ℕ) (before : Buffers)
+    → (analysis_answer file before).number ≡ 0
+    → ((analysed file before).after ≡ filled file before)
+    × ((analysed file before).states ≡ length (states_of file))
+    × ((analysed file before).atoms ≡ length (atoms_of file))
+    × ((analysed file before).rounds ≡ rounds_of file)
+unfolding analysed
+analysis-filled file before e =
+    let t = (ok-zero (analysis_answer file before)).1 e in
+    let a : Bool = ok (analysis_answer file before) in
+    (cond_yes a (filled file before) before t, cond_yes a _ 0 t, cond_yes a _ 0 t, cond_yes a _ 0 t)
 
 pub analysis_done_lem : (file : List ℕ) (before : Buffers) → (analysis_answer file before).number ≡ 0 → analysed file before ≡ analysis_done file before
 unfolding analysed analysis_answer
-analysis_done_lem file before e = with_done file before (nine_accepted file (long_enough file before) e)
-
-pub analysis-filled : (file : List ℕ) (before : Buffers) → (analysis_answer file before).number ≡ 0 → (analysed file before).after ≡ filled file before
-analysis-filled file before e = ap (λ (r : Analysed). r.after) (analysis_done_lem file before e)
-
--- The same of an analysis with the clause and the round of each atom.
-pub trace_refused : (file : List ℕ) (before : TraceBuffers)
-    → (trace_answer file before).number ≢ 0
-    → ((traced file before).analysis.after ≡ before.analysis)
-    × ((traced file before).clauses ≡ before.clauses)
-    × ((traced file before).rounds ≡ before.rounds)
-    × ((traced file before).analysis.states ≡ 0)
-    × ((traced file before).analysis.atoms ≡ 0)
-    × ((traced file before).analysis.rounds ≡ 0)
-unfolding traced
-trace_refused file before h =
-    let a : Bool = ok (trace_answer file before) in
-    let t = not-ok (trace_answer file before) h in
-    let w = with_refused (trace_answer file before) file before.analysis h in
-    (w.0, cond_no a _ before.clauses t, cond_no a _ before.rounds t, w.1, w.2, w.3)
-
-pub trace_done_lem : (file : List ℕ) (before : TraceBuffers) → (trace_answer file before).number ≡ 0 → traced file before ≡ trace_done file before
-unfolding traced trace_answer
-trace_done_lem file before e =
-    let answer = nine_accepted file (trace_enough file before) e in
-    λ i.
-    record {
-      analysis = with_done file before.analysis answer i;
-      clauses = cond (ok (answer i)) (written (clause_marks_of file) before.clauses) before.clauses;
-      rounds = cond (ok (answer i)) (written (round_marks_of file) before.rounds) before.rounds;
-    }
+analysis_done_lem file before e =
+    let w = (analysis-zero file before).0 e in
+    let long : Bool = long_enough file before in
+    let answer : analysis_answer file before ≡ accepted = then_next (file_answer file) (refuse_if (not long) 9 0) w.0 ∙ if_no (not long) 9 0 (not-not_intro long w.1) in
+    let f = analysis-filled file before e in
+    λ i. record { answer = answer i; states = f.1 i; atoms = f.2 i; rounds = f.3 i; after = f.0 i }
 
 -- With 0 a writing hands back what an analysis does, and the sheet.
 pub writing_done : (order : List (List ℕ)) (file : List ℕ) (before : Buffers) (sheet : List ℕ)
@@ -304,7 +234,7 @@ writing_done order file before sheet e =
     then_next (analysis_answer file before) (refuse_if (not room) 14 0) w.0 ∙ if_no (not room) 14 0 (not-not_intro room w.1) in
     let t = (ok-zero (writing_answer file before sheet)).1 e in
     let a : Bool = ok (writing_answer file before sheet) in
-    let after = analysis-filled file before w.0 in
+    let after = (analysis-filled file before w.0).0 in
     λ i. record { answer = answer i; states = cond_yes a (length (states_of file)) 0 t i; atoms = cond_yes a (length (atoms_of file)) 0 t i; rounds = cond_yes a (rounds_of file) 0 t i; after = after i }
 
 -- A refusal of a writing is 14, after an analysis that is refused nothing, or it is the analysis's.

@@ -1,4 +1,4 @@
--- The cases A to J of 01, the reefs, the limits and refusals, and the calls with every byte of every buffer, and request P1 of 02, as rows of one table under one theorem, proved
+-- The cases A to J of 01, the reefs, the limits and refusals, and the calls with every byte of every buffer, as rows of one table under one theorem, proved
 -- by computing the definitions. Assumes nothing.
 use Rattle.meaning.proofs.Prelude.{ℕ, ◌+◌, cond, Bool, List, [], ◌∷◌, map, ◌++◌, T, length, replicate}
 use Rattle.meaning.proofs.Definitions.{any_of, all_of, same, joined, table, Term, var, app, end, ◌▸◌, Named, Production, Atom, Clause, Condition}
@@ -9,8 +9,7 @@ use Rattle.meaning.proofs.Definitions.{cell_of, tables, rules_in, rules_of, stat
 use Rattle.meaning.proofs.Definitions.{is_open, encode_sheet, violated, check_fields, answer_of_sheet, marked_atoms, symbol_arities, predicate_arities}
 use Rattle.meaning.proofs.Definitions.{states_of, step_of, interpretation_of, tables_of, rounds_of, model_of, atoms_of, verdict_of, verdicts_of}
 use Rattle.meaning.proofs.Definitions.{Buffers, Analysed, analysis_answer, analysed, Written, writing_answer, written_in, Checked, lent_answer}
-use Rattle.meaning.proofs.Definitions.{check_answer, checked, first_stage, lowest_clause, clause_mark, round_mark, clause_marks, round_marks}
-use Rattle.meaning.proofs.Definitions.{clause_marks_of, round_marks_of, Traced, trace_answer, traced}
+use Rattle.meaning.proofs.Definitions.{check_answer, checked}
 
 -- what a row asks: the tags and the mosts of 01's table of kinds, with its other limits; the bytes that a name may have; of a rule file the answer to it, its bytes, the states, the tables, the number of atoms and the round count with the atoms, the verdicts,
 -- whether a domain atom is in the model, the answer to a sheet; the answers to the file with a field more, of a tag and with each of some contents; the answers to some sheets; what a call hands back, with so many places lent
@@ -21,7 +20,6 @@ data Asked : Type 0 where
   with_field : ℕ → List (List ℕ) → Asked
   checks : List (List ℕ) → Asked
   analysis : ℕ → ℕ → ℕ → ℕ → Asked
-  tracing : ℕ → ℕ → ℕ → ℕ → ℕ → ℕ → Asked
   writing : ℕ → ℕ → ℕ → ℕ → ℕ → Asked
   checking : List ℕ → ℕ → ℕ → Asked
 
@@ -36,9 +34,6 @@ bytes_of b = b.states ++ b.tables ++ b.marks ++ b.verdicts
 
 analysis_bytes : Analysed → List ℕ
 analysis_bytes r = pair r.answer ++ (r.states ∷ r.atoms ∷ r.rounds ∷ bytes_of r.after)
-
-tracing_bytes : Traced → List ℕ
-tracing_bytes r = analysis_bytes r.analysis ++ r.clauses ++ r.rounds
 
 writing_bytes : Written → List ℕ
 writing_bytes r = pair r.answer ++ (r.states ∷ r.atoms ∷ r.rounds ∷ r.bytes ∷ bytes_of r.after) ++ r.sheet
@@ -62,7 +57,6 @@ ask (with_field tag contents) file = joined (map (λ (content : List ℕ). pair 
 ask (checks sheets) file =
     joined (map (λ (sheet : List ℕ). pair (answer_of_sheet (states_of file) (interpretation_of file) (predicate_arities file) (rules_of file).clauses sheet)) sheets)
 ask (analysis s t m v) file = analysis_bytes (analysed file (nines s t m v))
-ask (tracing s t m v c r) file = tracing_bytes (traced file (record { analysis = nines s t m v; clauses = replicate c 9; rounds = replicate r 9 }))
 ask (writing s t m v room) file = writing_bytes (written_in (atoms_of file) file (nines s t m v) (replicate room 9))
 ask (checking sheet t m) file = check_bytes (checked file sheet (record { tables = replicate t 9; marks = replicate m 9 }))
 
@@ -423,31 +417,9 @@ calls =
     ∷ row E (checking sheet_e 3 1) (9 ∷ 0 ∷ replicate 4 9)
     ∷ []
 
--- p(X) if q(X); q(z); p(z), twice; q(s(X)) if p(X); q(s(X)) if q(X): an atom is brought by two clauses in one round, and by a lower one in a later round
-origins : List ℕ
-origins =
-    even_odd (name 0x70 1 ∷ name 0x71 1 ∷ [])
-    (clause 1 (p X) (q X ∷ []) ∷ clause 0 (q z) [] ∷ clause 0 (p z) [] ∷ clause 0 (p z) []
-    ∷ clause 1 (q (s X)) (p X ∷ []) ∷ clause 1 (q (s X)) (q X ∷ []) ∷ []) []
-
--- P1 of 02: the clause and the round of each atom; with exact, longer and one-short buffers; refused.
-traces : List Row
-traces =
-    row E (tracing 2 3 2 2 2 2) (0 ∷ 0 ∷ 2 ∷ 1 ∷ 1 ∷ done_e ++ (0 ∷ 255 ∷ 1 ∷ 0 ∷ []))
-    ∷ row E (tracing 2 3 2 2 3 4) (0 ∷ 0 ∷ 2 ∷ 1 ∷ 1 ∷ done_e ++ (0 ∷ 255 ∷ 9 ∷ 1 ∷ 0 ∷ 9 ∷ 9 ∷ []))
-    ∷ row I (tracing 2 3 4 0 4 4) (0 ∷ 0 ∷ 2 ∷ 2 ∷ 2 ∷ 1 ∷ 2 ∷ 0 ∷ 1 ∷ 0 ∷ 1 ∷ 0 ∷ 0 ∷ 1 ∷ 0 ∷ 255 ∷ 255 ∷ 1 ∷ 1 ∷ 0 ∷ 0 ∷ 2 ∷ [])
-    ∷ row J (tracing 2 3 2 0 2 2) (0 ∷ 0 ∷ 2 ∷ 0 ∷ 0 ∷ 1 ∷ 2 ∷ 0 ∷ 1 ∷ 0 ∷ 0 ∷ 0 ∷ 255 ∷ 255 ∷ 0 ∷ 0 ∷ [])
-    ∷ row origins (tracing 2 3 4 0 4 4) (0 ∷ 0 ∷ 2 ∷ 4 ∷ 3 ∷ 1 ∷ 2 ∷ 0 ∷ 1 ∷ 0 ∷ 1 ∷ 1 ∷ 1 ∷ 1 ∷ 2 ∷ 0 ∷ 1 ∷ 4 ∷ 1 ∷ 3 ∷ 1 ∷ 2 ∷ [])
-    ∷ row E (tracing 2 3 2 2 1 2) (9 ∷ 0 ∷ 0 ∷ 0 ∷ 0 ∷ replicate 12 9)
-    ∷ row E (tracing 2 3 2 2 2 1) (9 ∷ 0 ∷ 0 ∷ 0 ∷ 0 ∷ replicate 12 9)
-    ∷ row E (tracing 1 3 2 2 2 2) (9 ∷ 0 ∷ 0 ∷ 0 ∷ 0 ∷ replicate 12 9)
-    ∷ row E (tracing 2 3 2 1 2 2) (9 ∷ 0 ∷ 0 ∷ 0 ∷ 0 ∷ replicate 12 9)
-    ∷ row [] (tracing 1 0 0 0 1 1) (7 ∷ 0 ∷ 0 ∷ 0 ∷ 0 ∷ 9 ∷ 9 ∷ 9 ∷ [])
-    ∷ []
-
 holds : Row → Bool
 holds r = same (ask r.asked r.file) r.says
 
-cases : T (all_of holds (rows ++ limits ++ orders ++ calls ++ traces))
-unfolding rows limits orders calls traces origins tracing_bytes clause_marks_of round_marks_of clause_marks round_marks clause_mark round_mark first_stage lowest_clause trace_answer traced letters type_t zst zstp times example3 ordered wide holds ask nines bytes_of analysis_bytes writing_bytes check_bytes done_e E two_states sheet_e sheet_g X Y z s p q p₂ clause query name to even_odd_rules even_odd rules_e I J constant_only no_type no_such_set two_places head_only free_in unused_variable a many symbol a_p deep subsets asked encode_rules fields first_field term_within read_terms read_atom read_atoms read_clause read_conditions read_query refusal first_refused signature step determinise cell_of tables rules_in rules_of states_for read_answer file_answer brings next stage rounds model is_open encode_sheet violated check_fields answer_of_sheet marked_atoms symbol_arities predicate_arities states_of step_of interpretation_of tables_of rounds_of model_of atoms_of verdict_of verdicts_of analysis_answer analysed writing_answer written_in lent_answer check_answer checked
+cases : T (all_of holds (rows ++ limits ++ orders ++ calls))
+unfolding rows limits orders calls letters type_t zst zstp times example3 ordered wide holds ask nines bytes_of analysis_bytes writing_bytes check_bytes done_e E two_states sheet_e sheet_g X Y z s p q p₂ clause query name to even_odd_rules even_odd rules_e I J constant_only no_type no_such_set two_places head_only free_in unused_variable a many symbol a_p deep subsets asked encode_rules fields first_field term_within read_terms read_atom read_atoms read_clause read_conditions read_query refusal first_refused signature step determinise cell_of tables rules_in rules_of states_for read_answer file_answer brings next stage rounds model is_open encode_sheet violated check_fields answer_of_sheet marked_atoms symbol_arities predicate_arities states_of step_of interpretation_of tables_of rounds_of model_of atoms_of verdict_of verdicts_of analysis_answer analysed writing_answer written_in lent_answer check_answer checked
 cases = tt

@@ -1,10 +1,10 @@
 -- Sheets and their bytes, and the check: it accepts exactly the valid certificates, and each refusal names the lowest place that it fits.
 -- Assumes nothing.
-use Rattle.meaning.proofs.Prelude.{ℕ, ◌+◌, ◌<◌, ◌^◌, ◌*◌, max, ◌≡◌, refl, sym, ap, ◌∙◌, subst, ap₂, ◌≢◌, ⊎_elim, ◌⊎◌}
-use Rattle.meaning.proofs.Prelude.{inl, inr, ◌↔◌, iff_trans, cond, Bool, true, false, not, ◌&&◌, Option, none, some, some-ne-none, ◌||◌}
-use Rattle.meaning.proofs.Prelude.{none-ne-some, some_injective, List, [], ◌∷◌, map, ◌++◌, Memᴰ}
-use Rattle.meaning.proofs.Prelude.{append-nil, mem_cast, ltb, T, eqb, eqb→eq, eqb_refl, lt→ltb, ltb→lt, length, length-append}
-use Rattle.meaning.proofs.Prelude.{get_or, take, length-take-le, ext_get_or, get_or-take, arith}
+use Rattle.meaning.proofs.Prelude.{ℕ, ◌+◌, ◌<◌, zero, suc, ◌^◌, ◌*◌, max, suc-le-suc, ◌≡◌, refl, sym, ap, ◌∙◌, subst, ap₂, ◌≢◌, ⊎_elim, ◌⊎◌}
+use Rattle.meaning.proofs.Prelude.{inl, inr, ◌↔◌, iff_trans, cond, Bool, true, false, not, ◌&&◌, ◌||◌, Option, none, some, some-ne-none}
+use Rattle.meaning.proofs.Prelude.{none-ne-some, some_injective, List, [], ◌∷◌, map, ◌++◌, Memᴰ, mem_head}
+use Rattle.meaning.proofs.Prelude.{mem_tail, append-nil, mem_cast, ltb, T, eqb, eqb→eq, eqb_refl, lt→ltb, ltb→lt, length, length-append}
+use Rattle.meaning.proofs.Prelude.{get_or, take, get_elem?, length-take-le, ext_get_or, get_or-take, zero-lt-suc, arith}
 use lib.Arith.{digits_div, digits_mod}
 use Rattle.meaning.proofs.Definitions.{any_of, all_of, All, same, lowest, joined, Clause, state_tag, atom_tag, Bytes, Field, whole, cut, word}
 use Rattle.meaning.proofs.Definitions.{fields, contents_of, encode_field, first_field, Answer, refused, accepted, is_cut, NoneTwice, row_of}
@@ -12,7 +12,7 @@ use Rattle.meaning.proofs.Definitions.{AtomSet, term_states, InstanceIn, instanc
 use Rattle.meaning.proofs.Definitions.{Carries, InSheet, Valid, is_atom_content, misplaced, states_in, differ, wrong_atom, among, violated}
 use Rattle.meaning.proofs.Definitions.{violated_at, refused_at, check_fields, answer_of_sheet, GivenSheet, Violation, LowestViolation}
 use Rattle.meaning.proofs.Contents.{declared-exact}
-use Rattle.meaning.proofs.Lists.{decide, trichotomy, T_of, clash, not-not, not-not_intro, not_intro, both, both_of, neither, neither_of, any_find, any_give, all_facts, facts_all, All-map, mem-get_or, mem-place, any_below_find, any_below_give, lowest-some, lowest_nowhere, lowest-none, eq-same, same-eq, same_refl, at_lt, at_mem, mem-at, passes_at-is, lowest_in}
+use Rattle.meaning.proofs.Lists.{decide, trichotomy, T_of, clash, not-not, not-not_intro, not_intro, both, both_of, neither, neither_of, any_find, any_give, all_facts, facts_all, All-map, mem-get_or, mem-place, any_below_find, any_below_give, lowest-some, lowest_nowhere, lowest-is, lowest-none, eq-same, same-eq, same_refl}
 use Rattle.meaning.proofs.Fields.{word_halves, fields-each, fields-joined, fields-nil, encode_whole, fields-whole, FieldBytes, fields-bytes, contents_of-append, contents_of-same, contents_of_other, NoneBy, NoneBy-places, NoField, NoField-append, first_field-none}
 use Rattle.meaning.proofs.Cells.{valuation_of_number, number_of_valuation}
 use Rattle.meaning.proofs.Sums.{sum}
@@ -343,6 +343,22 @@ module _ (m : ℕ) (preds : List ℕ) where
       of_atoms : NoField (wrong_atom m) states (map (whole atom_tag) atoms) ↔ (All (IsSheetAtom m preds) atoms × NoneBy (λ seen l. any_of (same l) seen) [] atoms)
       of_atoms = atoms_right states [] atoms (no_atom_lem xs) h
 
+-- members by place
+module _ {A : Type 0} where
+  pub at_lt : (l : List A) (i : ℕ) (x : A) → get_elem? l i ≡ some x → i < length l
+  at_lt [] i x e = absurd (none-ne-some x e)
+  at_lt (y ∷ l) zero x e = zero-lt-suc _
+  at_lt (y ∷ l) (suc i) x e = suc-le-suc (at_lt l i x e)
+
+  pub at_mem : (l : List A) (i : ℕ) (x : A) → get_elem? l i ≡ some x → Memᴰ x l
+  at_mem [] i x e = absurd (none-ne-some x e)
+  at_mem (y ∷ l) zero x e = mem_head (sym (some_injective y x e))
+  at_mem (y ∷ l) (suc i) x e = mem_tail (at_mem l i x e)
+
+  mem-at : (l : List A) (x : A) → Memᴰ x l → (i : ℕ) × (get_elem? l i ≡ some x)
+  mem-at l x (mem_head e) = (0, ap some (sym e))
+  mem-at l x (mem_tail {xs = ys} m) = let w = mem-at ys x m in (suc w.0, w.1)
+
 -- 13: the test finds the violations in the set of the atoms
 module _ (m : ℕ) (interpret : ℕ → List ℕ → ℕ) (atoms : List (List ℕ)) (S : AtomSet) (is : (p : ℕ) (row : List ℕ) → T (among atoms p row) ↔ S p row) where
   passes-is : (c : Clause) (ν : List ℕ)
@@ -394,6 +410,15 @@ module _ (m : ℕ) (interpret : ℕ → List ℕ → ℕ) (atoms : List (List �
           let ν = row_of m c.variables n in
           all_of (instance_in interpret ν (among atoms)) c.body && not (instance_in interpret ν (among atoms) c.head)
 
+  violated_at-is : (clauses : List Clause) (i : ℕ)
+      → T (violated_at m interpret atoms clauses i) ↔ ((c : Clause) × (get_elem? clauses i ≡ some c) × Violation m interpret S c)
+  violated_at-is [] i = (absurd, (λ h. absurd (none-ne-some h.0 h.1)))
+  violated_at-is (c ∷ clauses) zero = (
+    (λ t. (c, refl, (violated-is c).0 t)),
+    (λ h. (violated-is c).1 (subst (Violation m interpret S) (sym (some_injective c h.0 h.1)) h.2)),
+  )
+  violated_at-is (c ∷ clauses) (suc i) = violated_at-is clauses i
+
   pub none-violated : (clauses : List Clause)
       → (lowest (length clauses) (violated_at m interpret atoms clauses) ≡ none) ↔ Closed m interpret clauses S
   none-violated clauses = (
@@ -405,25 +430,23 @@ module _ (m : ℕ) (interpret : ℕ → List ℕ → ℕ) (atoms : List (List �
         absurd
         (clash
         (test w.0)
-        ((passes_at-is (violated m interpret atoms) clauses w.0).1 (
+        ((violated_at-is clauses w.0).1 (
           c,
           w.1,
-          (violated-is c).1
-              (record {
-                valuation = ν;
-                valued = valued;
-                body_in = body;
-                head_out = λ h. clash (instance_in interpret ν (among atoms) c.head) ((is c.head.predicate (term_states interpret ν c.head.arguments)).1 h) t;
-              }),
+          record {
+            valuation = ν;
+            valued = valued;
+            body_in = body;
+            head_out = λ h. clash (instance_in interpret ν (among atoms) c.head) ((is c.head.predicate (term_states interpret ν c.head.arguments)).1 h) t;
+          },
         ))
         ((lowest_nowhere (length clauses) test).0 e w.0 (at_lt clauses w.0 c w.1))))
         (decide (instance_in interpret ν (among atoms) c.head))),
     (λ closed.
         lowest-none (length clauses) test (λ i lt.
         not_intro (test i) (λ t.
-        let w = (passes_at-is (violated m interpret atoms) clauses i).0 t in
-        let v = (violated-is w.0).0 w.2 in
-        v.head_out (closed w.0 (at_mem clauses i w.0 w.1) v.valuation v.valued v.body_in)))),
+        let w = (violated_at-is clauses i).0 t in
+        w.2.head_out (closed w.0 (at_mem clauses i w.0 w.1) w.2.valuation w.2.valued w.2.body_in)))),
   )
     where
       test : ℕ → Bool
@@ -431,7 +454,28 @@ module _ (m : ℕ) (interpret : ℕ → List ℕ → ℕ) (atoms : List (List �
 
   pub first-violated : (clauses : List Clause) (i : ℕ)
       → (lowest (length clauses) (violated_at m interpret atoms clauses) ≡ some i) ↔ LowestViolation m interpret clauses S i
-  first-violated clauses i = lowest_in (violated m interpret atoms) (Violation m interpret S) clauses (λ c at. violated-is c) i
+  first-violated clauses i = (
+    (λ e.
+        let h = (lowest-some (length clauses) test i).0 e in
+        let w = (violated_at-is clauses i).0 h.here in
+        record {
+          clause = w.0;
+          numbered = w.1;
+          violation = w.2;
+          lower = λ j lt c at v. clash (test j) ((violated_at-is clauses j).1 (c, at, v)) (h.lower j lt);
+        }),
+    (λ v.
+        lowest-is
+        (length clauses)
+        test
+        i
+        (at_lt clauses i v.clause v.numbered)
+        ((violated_at-is clauses i).1 (v.clause, v.numbered, v.violation))
+        (λ j lt. not_intro (test j) (λ t. let w = (violated_at-is clauses j).0 t in v.lower j lt w.0 w.1 w.2))),
+  )
+    where
+      test : ℕ → Bool
+      test = violated_at m interpret atoms clauses
 
 -- an answer is a refusal's if it fits and the answers after it have other numbers, and a later one's if it does not fit
 refused_at-number : (number n : ℕ) (o : Option ℕ) (after : Answer) → number ≢ n → after.number ≢ n → (refused_at number o after).number ≢ n
@@ -691,12 +735,12 @@ module _ (states : List ℕ) (interpret : ℕ → List ℕ → ℕ) (preds : Lis
   )
 
   -- 13 names the lowest clause that has an instance with its body in the sheet and its head not
-  pub check_violation : (sheet : List ℕ)
+  pub check-violation : (sheet : List ℕ)
       → LaidOut (length states) preds sheet
       → Carries states sheet
       → (i : ℕ)
       → (answer_of_sheet states interpret preds clauses sheet ≡ refused 13 i) ↔ LowestViolation (length states) interpret clauses (InSheet sheet) i
-  check_violation sheet laid carries i = (
+  check-violation sheet laid carries i = (
     (λ e. first.0 ((check-violated sheet i).0 e).1.1.1),
     (λ v.
         let h = laid_passes sheet laid carries in

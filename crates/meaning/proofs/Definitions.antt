@@ -1,9 +1,9 @@
 -- The definitions of specs/ that proofs use, for one import. Contracts name the files of specs/ themselves. Assumes nothing.
-pub use Rattle.meaning.specs.Lists.{All, Rising, all_of, any_below, any_of, joined, lowest, nonzero, ones, padded, passes_at, same, table}
+pub use Rattle.meaning.specs.Lists.{All, Rising, all_of, any_below, any_of, joined, lowest, nonzero, ones, padded, same, table}
 pub use Rattle.meaning.specs.Syntax.{Atom, Clause, Condition, Named, Production, Query, Rules, Term, Terms, Tree, Trees, ◌▸◌, ◌▹◌, app, end}
 pub use Rattle.meaning.specs.Syntax.{free, is_of, leaf, node, not_of, term_count, tree_count, var}
 pub use Rattle.meaning.specs.Limits.{Kind, atom_tag, clause, first_variable, free_byte, most_body, most_content, most_file_bytes, most_name, most_of}
-pub use Rattle.meaning.specs.Limits.{most_predicate_arity, most_states, most_symbol_arity, most_variables, no_clause_byte, predicate, production, query, state_tag}
+pub use Rattle.meaning.specs.Limits.{most_predicate_arity, most_states, most_symbol_arity, most_variables, predicate, production, query, state_tag}
 pub use Rattle.meaning.specs.Limits.{symbol, tag_of, type}
 unfoldable pub use Rattle.meaning.specs.Fields.{fields, first_field}
 pub use Rattle.meaning.specs.Fields.{Bytes, Field, Front, contents_of, cut, empty, encode_field, fields_within, front, front_of, on_front, short}
@@ -33,8 +33,6 @@ pub use Rattle.meaning.specs.Clauses.{AtomSet, Brought, Closed, InstanceIn, IsAt
 pub use Rattle.meaning.specs.Clauses.{meets, meets_all, place, term_state, term_states}
 pub use Rattle.meaning.specs.Ground.{Derivable, GroundClosed, GroundIn, GroundMeets, GroundMeetsAll, GroundSet, IsSubstitution, NoneDerivable}
 pub use Rattle.meaning.specs.Ground.{ground, grounds}
-unfoldable pub use Rattle.meaning.specs.Provenance.{clause_mark, clause_marks, first_stage, lowest_clause, round_mark, round_marks}
-pub use Rattle.meaning.specs.Provenance.{LowestBringing, clause_before}
 unfoldable pub use Rattle.meaning.specs.Certificates.{check_fields, encode_sheet, marked_atoms, answer_of_sheet, violated}
 pub use Rattle.meaning.specs.Certificates.{Carries, GivenSheet, InSheet, IsOrder, IsSheetAtom, LaidOut, LowestViolation, Valid, Violation}
 pub use Rattle.meaning.specs.Certificates.{among, atoms_from, differ, is_atom_content, misplaced, refused_at, state_bytes, states_in, violated_at}
@@ -43,13 +41,10 @@ unfoldable pub use Rattle.meaning.specs.Calls.{analysed, analysis_answer, atoms_
 unfoldable pub use Rattle.meaning.specs.Calls.{predicate_arities, rounds_of, states_of, step_of, symbol_arities, tables_of, verdict_of, verdicts_of}
 unfoldable pub use Rattle.meaning.specs.Calls.{writing_answer, written_in}
 pub use Rattle.meaning.specs.Calls.{Admitted, Analysed, AnalysisOf, Buffers, CheckOf, Checked, Lent, LentEnough, LongEnough, OrderOf, Passes}
-pub use Rattle.meaning.specs.Calls.{Written, WrittenInOrder, analysed_with, analysis_done, check_done, counted, filled, holds, lent_enough, long_enough, ours}
+pub use Rattle.meaning.specs.Calls.{Written, WrittenInOrder, analysis_done, check_done, counted, filled, holds, lent_enough, long_enough, ours}
 pub use Rattle.meaning.specs.Calls.{without_sheet, written}
-unfoldable pub use Rattle.meaning.specs.Tracing.{clause_marks_of, round_marks_of, trace_answer, traced}
-pub use Rattle.meaning.specs.Tracing.{TraceBuffers, TraceEnough, TraceOf, Traced, trace_done, trace_enough}
-pub use Rattle.meaning.specs.Given.{Acceptable, Accepted, FirstFits, FirstOf, FirstRefusal, Given, GivenAnalysis, GivenCheck, GivenReading, GivenTrace}
+pub use Rattle.meaning.specs.Given.{Acceptable, Accepted, FirstFits, FirstOf, FirstRefusal, Given, GivenAnalysis, GivenCheck, GivenReading}
 pub use Rattle.meaning.specs.Given.{GivenWriting, HasConstant, NoneFits, NoneOf, NoneRefused}
 pub use Rattle.meaning.specs.Demand1.{Demand1}
 pub use Rattle.meaning.specs.Demand2.{AreStatesOf, Demand2, InEveryClosed, IsStateOf, OpenIn, Settled, interpret_in, mark_in, sets_in}
 pub use Rattle.meaning.specs.Demand3.{Demand3}
-pub use Rattle.meaning.specs.Request1.{AtomsMarked, Descent, EndsWithin, InModel, Request1, clause_in, round_in}

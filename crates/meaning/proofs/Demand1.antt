@@ -13,14 +13,14 @@ use Rattle.meaning.proofs.Calls.{long-exact, lent_exact, then_refused, unless_re
 
 module _ (file : List ℕ) where
   -- a number 0 of 1 to 8 says that the file is accepted
-  pub zero-given : ((file_answer file).number ≡ 0) ↔ Accepted file
+  zero-given : ((file_answer file).number ≡ 0) ↔ Accepted file
   zero-given = (
     λ z. (acceptance_given file).0 (zero-accepted file z),
     λ w. ap (λ (a : Answer). a.number) ((acceptance_given file).1 w),
   )
 
   -- 9 after 1 to 8, for buffers that are long enough as a test and as a fact
-  pub nine_given : {Long : Type 0} (long : Bool)
+  nine_given : {Long : Type 0} (long : Bool)
       → (T long ↔ Long)
       → (n k : ℕ)
       → n ≢ 0
@@ -126,10 +126,10 @@ module _ (file : List ℕ) where
   check-answer w = ap (λ (a : Checked). a.answer) w.is
 
   -- an equation moved along the answer of a call
-  pub along : {G : Type 0} {a b : Answer} {n k : ℕ} → a ≡ b → ((b ≡ refused n k) ↔ G) → (a ≡ refused n k) ↔ G
+  along : {G : Type 0} {a b : Answer} {n k : ℕ} → a ≡ b → ((b ≡ refused n k) ↔ G) → (a ≡ refused n k) ↔ G
   along e g = (λ h. g.0 (sym e ∙ h), λ h. e ∙ g.1 h)
 
-  pub number_along : {a b : Answer} → a ≡ b → a.number ≡ b.number
+  number_along : {a b : Answer} → a ≡ b → a.number ≡ b.number
   number_along e = ap (λ (a : Answer). a.number) e
 
 -- with 0 the file is accepted
@@ -173,7 +173,7 @@ demand_1 file =
             ap (λ (a : Written). a.sheet) w.is ∙ l.0,
             λ k.
                 ⊎_elim
-                (λ c. after ∙ analysis-filled file before c.1)
+                (λ c. after ∙ (analysis-filled file before c.1).0)
                 (λ c. absurd (c.0 (sym e ∙ k)))
                 (writing_cases file before sheet h'),
             λ k.

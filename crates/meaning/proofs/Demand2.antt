@@ -8,7 +8,7 @@ use Rattle.meaning.proofs.Definitions.{marked, IsValuation, term_states, Stage, 
 use Rattle.meaning.proofs.Definitions.{states_for, symbol_arities, predicate_arities, states_of, step_of, interpretation_of, tables_of, rounds_of}
 use Rattle.meaning.proofs.Definitions.{model_of, atoms_of, verdict_of, verdicts_of, written, Buffers, Analysed, AnalysisOf, analysis_done, Admitted}
 use Rattle.meaning.proofs.Definitions.{IsStateOf, AreStatesOf, sets_in, interpret_in, mark_in, InEveryClosed, Settled, OpenIn, Demand2}
-use Rattle.meaning.proofs.Lists.{clash, not-not, not_intro, at_lt, at_mem}
+use Rattle.meaning.proofs.Lists.{clash, not-not, not_intro}
 use Rattle.meaning.proofs.Setting.{InRange, each_state}
 use Rattle.meaning.proofs.Types.{type-set-exact, declared-allowed}
 use Rattle.meaning.proofs.Cells.{place-lt}
@@ -19,16 +19,17 @@ use Rattle.meaning.proofs.Model.{rounds-settled, rounds-least, settled-exact, mo
 use Rattle.meaning.proofs.Verdicts as Verdicts
 use Rattle.meaning.proofs.Interpretations.{rounds-same, model-same, open_same}
 use Rattle.meaning.proofs.MarkedAtoms.{marked-count}
+use Rattle.meaning.proofs.Certificates.{at_lt, at_mem}
 use Rattle.meaning.proofs.Calls.{tables-length, marks-length, verdicts-length}
 use Rattle.meaning.proofs.Demand1.{demand_1, accepted-analysis}
 use Rattle.meaning.proofs.Theorems as theorems
 
 -- a byte of the needed ones
-pub needed_at : (needed before : List ℕ) (i : ℕ) → i < length needed → get_or (written needed before) i 0 ≡ get_or needed i 0
+needed_at : (needed before : List ℕ) (i : ℕ) → i < length needed → get_or (written needed before) i 0 ≡ get_or needed i 0
 needed_at needed before i lt = get_or-append needed (drop (length needed) before) 0 i lt
 
 -- a place of the needed ones is inside a buffer that is long enough
-pub inside : (needed before : List ℕ) (i : ℕ) → i < length needed → i < length (written needed before)
+inside : (needed before : List ℕ) (i : ℕ) → i < length needed → i < length (written needed before)
 inside needed before i lt = omega (arith, length-append needed (drop (length needed) before))
 
 -- marks of 0 and 1
@@ -36,7 +37,7 @@ one-marked : (x : ℕ) → (x ≡ 0) ⊎ (x ≡ 1) → (x ≡ 1) ↔ T (not (eqb
 one-marked x (inl e) = (λ o. absurd (omega (arith, e, o)), λ t. absurd (subst (λ (n : ℕ). T (not (eqb n 0))) e t))
 one-marked x (inr e) = (λ o. subst (λ (n : ℕ). T (not (eqb n 0))) (sym e) tt, λ t. e)
 
-pub zero_unmarked : (x : ℕ) → (x ≡ 0) ↔ (¬ T (not (eqb x 0)))
+zero_unmarked : (x : ℕ) → (x ≡ 0) ↔ (¬ T (not (eqb x 0)))
 zero_unmarked x = (
   λ e t. clash (eqb x 0) (subst (λ (n : ℕ). T (eqb n 0)) (sym e) tt) t,
   λ h. eqb→eq x 0 (not-not (eqb x 0) (not_intro (not (eqb x 0)) h)),
@@ -60,10 +61,10 @@ at_map f (y ∷ l) zero x e = ap f (some_injective y x e)
 at_map f (y ∷ l) (suc i) x e = at_map f l i x e
 
 module _ (file : List ℕ) (before : Buffers) (admitted : Admitted file) where
-  abbrev pub m : ℕ
+  abbrev m : ℕ
   m = length (states_of file)
 
-  abbrev pub clauses : List Clause
+  abbrev clauses : List Clause
   clauses = (rules_of file).clauses
 
   abbrev productions : List Production
@@ -76,19 +77,19 @@ module _ (file : List ℕ) (before : Buffers) (admitted : Admitted file) where
   sets_are = take_at (states_of file) (drop m before.states) m refl
 
   -- the tables handed back are those of the file, and give the file's pre-interpretation
-  abbrev pub J : ℕ → List ℕ → ℕ
+  abbrev J : ℕ → List ℕ → ℕ
   J = interpret_in file result
 
-  pub agree : (f : ℕ) (row : List ℕ) → Declared (symbol_arities file) f (length row) → All (λ d. d < m) row → interpretation_of file f row ≡ J f row
+  agree : (f : ℕ) (row : List ℕ) → Declared (symbol_arities file) f (length row) → All (λ d. d < m) row → interpretation_of file f row ≡ J f row
   unfolding tables_of interpretation_of
   agree f row declared low =
       sym (needed_at (tables_of file) before.tables _ (subst (λ (n : ℕ). place m (symbol_arities file) f row < n) (sym (tables-length file)) (place-lt m (symbol_arities file) f row (declared, low)))
       ∙ tables-at (step_of file) (states_of file) (symbol_arities file) f row declared low)
 
-  pub range : InRange (symbol_arities file) m J
+  range : InRange (symbol_arities file) m J
   range f row declared low = subst (λ (d : ℕ). d < m) (agree f row declared low) (theorems.range file admitted f row declared low)
 
-  pub well_clauses : All (WellClause (symbol_arities file) (predicate_arities file)) clauses
+  well_clauses : All (WellClause (symbol_arities file) (predicate_arities file)) clauses
   well_clauses = theorems.well_clauses file admitted
 
   -- a ground term's state, by the sets handed back
@@ -128,21 +129,21 @@ module _ (file : List ℕ) (before : Buffers) (admitted : Admitted file) where
       )
 
   -- the model by the tables handed back
-  abbrev pub preds : List ℕ
+  abbrev preds : List ℕ
   preds = predicate_arities file
 
-  abbrev pub model_j : List ℕ
+  abbrev model_j : List ℕ
   model_j = model m J preds clauses
 
-  pub model_is : model_of file ≡ model_j
+  model_is : model_of file ≡ model_j
   unfolding model_of
   model_is = model-same (symbol_arities file) m (interpretation_of file) J (theorems.range file admitted) agree preds clauses well_clauses
 
-  rounds_are_lem : rounds_of file ≡ rounds m J preds clauses
+  rounds_are : rounds_of file ≡ rounds m J preds clauses
   unfolding rounds_of
-  rounds_are_lem = rounds-same (symbol_arities file) m (interpretation_of file) J (theorems.range file admitted) agree preds clauses well_clauses
+  rounds_are = rounds-same (symbol_arities file) m (interpretation_of file) J (theorems.range file admitted) agree preds clauses well_clauses
 
-  abbrev pub mark : ℕ → List ℕ → ℕ
+  abbrev mark : ℕ → List ℕ → ℕ
   mark = mark_in file result
 
   place_inside : (p : ℕ) (row : List ℕ) → IsAtom m preds p row → place m preds p row < length (model_of file)
@@ -157,11 +158,11 @@ module _ (file : List ℕ) (before : Buffers) (admitted : Admitted file) where
   model-bits = stage-bits m J preds clauses (rounds m J preds clauses)
 
   -- a mark is 1 exactly if its atom is marked, and 0 exactly if it is not
-  pub mark-one : (p : ℕ) (row : List ℕ) → IsAtom m preds p row → (mark p row ≡ 1) ↔ T (marked m preds model_j p row)
+  mark-one : (p : ℕ) (row : List ℕ) → IsAtom m preds p row → (mark p row ≡ 1) ↔ T (marked m preds model_j p row)
   mark-one p row h =
       subst (λ (x : ℕ). (x ≡ 1) ↔ T (marked m preds model_j p row)) (sym (mark-is p row h)) (one-marked (get_or model_j (place m preds p row) 0) (model-bits _))
 
-  pub mark-zero : (p : ℕ) (row : List ℕ) → IsAtom m preds p row → (mark p row ≡ 0) ↔ (¬ T (marked m preds model_j p row))
+  mark-zero : (p : ℕ) (row : List ℕ) → IsAtom m preds p row → (mark p row ≡ 0) ↔ (¬ T (marked m preds model_j p row))
   mark-zero p row h =
       subst (λ (x : ℕ). (x ≡ 0) ↔ (¬ T (marked m preds model_j p row))) (sym (mark-is p row h)) (zero_unmarked (get_or model_j (place m preds p row) 0))
 
@@ -191,13 +192,13 @@ module _ (file : List ℕ) (before : Buffers) (admitted : Admitted file) where
   unfolding model
   last-stage p row h =
       let set = stage-set (symbol_arities file) preds m J clauses range well_clauses (rounds m J preds clauses) p row h in
-      subst (λ (k : ℕ). (mark p row ≡ 1) ↔ Stage m J clauses k p row) (sym rounds_are_lem)
+      subst (λ (k : ℕ). (mark p row ≡ 1) ↔ Stage m J clauses k p row) (sym rounds_are)
       (λ e. set.0 ((mark-one p row h).0 e), λ s. (mark-one p row h).1 (set.1 s))
 
   rounds-exact : Settled file result (rounds_of file) × ((k : ℕ) → k < rounds_of file → ¬ Settled file result k)
   rounds-exact =
       let exact = settled-exact (symbol_arities file) preds m J clauses range well_clauses in
-      subst (λ (r : ℕ). Settled file result r × ((k : ℕ) → k < r → ¬ Settled file result k)) (sym rounds_are_lem) (
+      subst (λ (r : ℕ). Settled file result r × ((k : ℕ) → k < r → ¬ Settled file result k)) (sym rounds_are) (
         (exact (rounds m J preds clauses)).0 (rounds-settled (symbol_arities file) preds m J clauses range well_clauses),
         λ k lt s. rounds-least (symbol_arities file) preds m J clauses range well_clauses k lt ((exact k).1 s),
       )
@@ -285,7 +286,7 @@ module _ (file : List ℕ) (before : Buffers) (admitted : Admitted file) where
         λ w. exact.1 (w.0, w.1, (set w.0 s).1 w.2),
       )
 
-  pub done_meets : Demand2 file result
+  done_meets : Demand2 file result
   unfolding states_of states_for
   done_meets =
       record {

@@ -1,11 +1,10 @@
--- What the demands speak of is there: for an accepted file and buffers that are just long enough, an analysis that hands back 0, one with the clause and the
--- round of each atom and the writing of a sheet that do; for every file and sheet, a sheet check with buffers long enough. Assumes nothing.
-use Rattle.meaning.proofs.Prelude.{ℕ, ◌≡◌, refl, sym, ap, List, le→leb, length, perm_refl, le_of_eq, le_refl}
+-- What the demands speak of is there: for an accepted file and buffers that are just long enough, an analysis that hands back 0 and the writing of a sheet that
+-- does; for every file and sheet, a sheet check with buffers long enough. Assumes nothing.
+use Rattle.meaning.proofs.Prelude.{ℕ, ◌≡◌, refl, sym, ap, List, T, le→leb, length, perm_refl, le_of_eq, le_refl}
 use Rattle.meaning.proofs.Definitions.{Answer, encode_sheet, states_of, tables_of, model_of, atoms_of, verdicts_of, Buffers, LongEnough, Analysed, analysis_answer}
 use Rattle.meaning.proofs.Definitions.{analysed, AnalysisOf, Written, written_in, WrittenInOrder, Lent, LentEnough, Checked, checked, CheckOf, Accepted}
-use Rattle.meaning.proofs.Definitions.{clause_marks_of, round_marks_of, TraceBuffers, Traced, traced, TraceOf}
 use Rattle.meaning.proofs.Acceptance.{acceptance_given}
-use Rattle.meaning.proofs.Calls.{tables-length, marks-length, verdicts-length, clauses-length, rounds-length, long-exact, trace_exact, analysis-zero, trace_zero, writing-zero}
+use Rattle.meaning.proofs.Calls.{tables-length, marks-length, verdicts-length, long-exact, analysis-zero, writing-zero}
 
 -- buffers that are just long enough, for an analysis and for a sheet check
 pub shortest_buffers : List ℕ → Buffers
@@ -38,24 +37,6 @@ pub analysis_exists : (file : List ℕ)
     → (before : Buffers) × ((result : Analysed) × AnalysisOf file before result × (result.answer.number ≡ 0))
 unfolding analysed
 analysis_exists file w = (shortest_buffers file, (analysed file (shortest_buffers file), record { is = refl }, shortest_zero file w))
-
-pub trace_exists : (file : List ℕ)
-    → Accepted file
-    → (before : TraceBuffers) × ((result : Traced) × TraceOf file before result × (result.analysis.answer.number ≡ 0))
-unfolding traced
-trace_exists file w =
-    let before : TraceBuffers = record { analysis = shortest_buffers file; clauses = clause_marks_of file; rounds = round_marks_of file } in (
-      before,
-      (
-        traced file before,
-        record { is = refl },
-        (trace_zero file before).1 (
-          ap (λ (a : Answer). a.number) ((acceptance_given file).1 w),
-          (trace_exact file before).1
-              (record { analysis = shortest_long file; clauses = le_of_eq (sym (clauses-length file)); rounds = le_of_eq (sym (rounds-length file)) }),
-        ),
-      ),
-    )
 
 pub writing_exists : (file : List ℕ)
     → Accepted file

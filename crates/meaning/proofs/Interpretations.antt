@@ -1,12 +1,10 @@
 -- Two interpretations that agree on declared symbols over states give the same instances, stages, model, verdicts and violations. Assumes nothing.
-use Rattle.meaning.proofs.Prelude.{ℕ, ◌<◌, zero, suc, ◌^◌, ◌≡◌, refl, sym, ap, ◌∙◌, subst, ap₂, Bool, not, ◌&&◌, Option, none, some, option_get_or, List, [], ◌||◌}
-use Rattle.meaning.proofs.Prelude.{◌∷◌, eqb, length, get_or, arith}
+use Rattle.meaning.proofs.Prelude.{ℕ, ◌<◌, zero, suc, ◌^◌, ◌≡◌, refl, sym, ap, ◌∙◌, subst, ap₂, Bool, not, ◌&&◌, ◌||◌, option_get_or, List, []}
+use Rattle.meaning.proofs.Prelude.{◌∷◌, eqb, length, arith}
 use Rattle.meaning.proofs.Definitions.{all_of, any_below, All, same, lowest, table, Term, Terms, var, app, end, ◌▸◌, Atom, Clause, Query}
 use Rattle.meaning.proofs.Definitions.{Declared, WellTerm, WellTerms, WellAtom, WellClause, WellQuery, bit, row_of, cells, IsValuation}
 use Rattle.meaning.proofs.Definitions.{term_state, term_states, instance_in, place, brings_under, marked, brings, next, stage, rounds, model}
-use Rattle.meaning.proofs.Definitions.{meets_all, is_open, among, violated, violated_at, no_clause_byte, first_stage, lowest_clause, clause_before}
-use Rattle.meaning.proofs.Definitions.{round_mark, clause_mark, round_marks, clause_marks}
-use Rattle.meaning.proofs.Lists.{All-find, table_ext, lowest_ext, passes_at-same}
+use Rattle.meaning.proofs.Definitions.{meets_all, is_open, among, violated, violated_at}
 use Rattle.meaning.proofs.Setting.{InRange}
 use Rattle.meaning.proofs.Stages.{states-lt, length-states_of}
 use Rattle.meaning.proofs.Cells.{valuation_of_number}
@@ -73,40 +71,6 @@ module _ (arities : List ℕ) (m : ℕ) (I J : ℕ → List ℕ → ℕ) (range 
       unfolding model
       model-same = stage-same (rounds m I preds clauses) ∙ ap (stage m J preds clauses) rounds-same
 
-      -- the round and the clause of each atom
-      first-same : (i : ℕ) → first_stage m I preds clauses i ≡ first_stage m J preds clauses i
-      unfolding first_stage
-      first-same i = λ j. lowest (suc (rounds-same j)) (λ k. not (eqb (get_or (stage-same k j) i 0) 0))
-
-      lowest-same : (k i : ℕ) → lowest_clause m I preds clauses k i ≡ lowest_clause m J preds clauses k i
-      unfolding lowest_clause
-      lowest-same k i =
-          lowest_ext (length clauses) _ _ (λ n lt.
-          passes_at-same _ _ clauses (λ c at.
-          brings-same (c ∷ []) (All-find (WellClause arities preds) clauses well c at, tt) (marked m preds (stage m I preds clauses k)) i
-          ∙ ap (λ (l : List ℕ). brings m J preds (c ∷ []) (marked m preds l) i) (stage-same k)) n)
-
-      before_same : (o : Option ℕ) (i : ℕ) → clause_before m I preds clauses o i ≡ clause_before m J preds clauses o i
-      before_same none i = refl
-      before_same (some zero) i = refl
-      before_same (some (suc k)) i = ap (λ (o : Option ℕ). option_get_or o no_clause_byte) (lowest-same k i)
-
-      pub round_mark-same : (i : ℕ) → round_mark m I preds clauses i ≡ round_mark m J preds clauses i
-      unfolding round_mark
-      round_mark-same i = ap (λ (o : Option ℕ). option_get_or o 0) (first-same i)
-
-      pub clause_mark-same : (i : ℕ) → clause_mark m I preds clauses i ≡ clause_mark m J preds clauses i
-      unfolding clause_mark
-      clause_mark-same i = before_same (first_stage m I preds clauses i) i ∙ ap (λ (o : Option ℕ). clause_before m J preds clauses o i) (first-same i)
-
-      pub round_marks-same : round_marks m I preds clauses ≡ round_marks m J preds clauses
-      unfolding round_marks
-      round_marks-same = table_ext (cells m preds) _ _ (λ i lt. round_mark-same i)
-
-      pub clause_marks-same : clause_marks m I preds clauses ≡ clause_marks m J preds clauses
-      unfolding clause_marks
-      clause_marks-same = table_ext (cells m preds) _ _ (λ i lt. clause_mark-same i)
-
     pub open_same : (types : ℕ) (sets : List ℕ) (S : ℕ → List ℕ → Bool) (q : Query) → WellQuery types arities preds q → is_open sets m I S q ≡ is_open sets m J S q
     unfolding is_open
     open_same types sets S q h =
@@ -126,5 +90,6 @@ module _ (arities : List ℕ) (m : ℕ) (I J : ℕ → List ℕ → ℕ) (range 
         → All (WellClause arities preds) clauses
         → (i : ℕ)
         → violated_at m I atoms clauses i ≡ violated_at m J atoms clauses i
-    violated_at-same atoms clauses well =
-        passes_at-same (violated m I atoms) (violated m J atoms) clauses (λ c at. violated-same atoms c (All-find (WellClause arities preds) clauses well c at))
+    violated_at-same atoms [] well i = refl
+    violated_at-same atoms (c ∷ clauses) well zero = violated-same atoms c well.0
+    violated_at-same atoms (c ∷ clauses) well (suc i) = violated_at-same atoms clauses well.1 i

@@ -19,7 +19,6 @@ pub mod Acceptance
 pub mod Stages
 pub mod Sums
 pub mod Model
-pub mod Provenance
 pub mod Verdicts
 pub mod Interpretations
 pub mod Soundness
@@ -31,6 +30,5 @@ pub mod Exists
 pub mod Demand1
 pub mod Demand2
 pub mod Demand3
-pub mod Request1
 pub mod Cases
 pub mod Derivable

@@ -1,12 +1,12 @@
 -- The laws of the tests and facts of specs/Lists.antt: each quantifier has one law that finds and one that gives, and nothing else is known
 -- of it. Assumes nothing.
 use Rattle.meaning.proofs.Prelude.{ℕ, ◌<◌, zero, suc, suc-le-suc, ◌≡◌, refl, sym, ap, ◌∙◌, subst, ap₂, ⊎_elim, ◌⊎◌, inl, inr, ◌↔◌, cond, Bool}
-use Rattle.meaning.proofs.Prelude.{true, false, not, ◌&&◌, Option, none, some, List, [], ◌∷◌, map, ◌++◌, Memᴰ, mem_head, ◌||◌}
+use Rattle.meaning.proofs.Prelude.{true, false, not, ◌&&◌, ◌||◌, Option, none, some, List, [], ◌∷◌, ◌++◌, Memᴰ, mem_head}
 use Rattle.meaning.proofs.Prelude.{mem_tail, append_assoc, mem_not-nil, mem_cases-cons, mem-append_cases}
 use Rattle.meaning.proofs.Prelude.{mem-append_left, mem-append_right, T, eqb, eqb→eq, eqb_refl, length, get_or, not-suc-le-zero, drop_at, take}
 use Rattle.meaning.proofs.Prelude.{le_of_suc-le-suc, lt-suc_self, le_step, eq-or-lt_of_le, zero-lt-suc, dec_lt, arith, drop, set, set_split}
-use Rattle.meaning.proofs.Prelude.{length-take-le, get_elem?, none-ne-some, some_injective}
-use Rattle.meaning.specs.Lists.{any_of, all_of, All, any_below, lowest, LowestBelow, LowestIn, NoneBelow, passes_at, same, joined, table}
+use Rattle.meaning.proofs.Prelude.{length-take-le}
+use Rattle.meaning.specs.Lists.{any_of, all_of, All, any_below, lowest, LowestBelow, NoneBelow, same, joined, table}
 
 -- a test and its negation
 pub decide : (b : Bool) → T b ⊎ T (not b)
@@ -201,10 +201,6 @@ module _ {A : Type 0} where
   table_ext (suc n) f g h =
       ap₂ (λ (x : A) (xs : List A). x ∷ xs) (h 0 (zero-lt-suc n)) (table_ext n (λ i. f (suc i)) (λ i. g (suc i)) (λ i lt. h (suc i) (suc-le-suc lt)))
 
-  pub map-table : {B : Type 0} (f : A → B) (n : ℕ) (g : ℕ → A) → map f (table n g) ≡ table n (λ i. f (g i))
-  map-table f zero g = refl
-  map-table {B} f (suc n) g = ap (λ (l : List B). f (g 0) ∷ l) (map-table f n (λ i. g (suc i)))
-
   -- lists one after the other
   pub joined-append : (xs ys : List (List A)) → joined (xs ++ ys) ≡ joined xs ++ joined ys
   joined-append [] ys = refl
@@ -312,59 +308,3 @@ eq-same xs ys e = subst (λ (l : List ℕ). T (same xs l)) e (same_refl xs)
 -- a list from the place on where it was set
 pub drop-set : (l : List ℕ) (i x : ℕ) → i < length l → drop i (set l i x) ≡ x ∷ drop (suc i) l
 drop-set l i x h = ap (drop i) (set_split l i x h) ∙ drop_at (take i l) (x ∷ drop (suc i) l) i (length-take-le i l (omega arith))
-
--- members by number
-module _ {A : Type 0} where
-  pub at_lt : (l : List A) (i : ℕ) (x : A) → get_elem? l i ≡ some x → i < length l
-  at_lt [] i x e = absurd (none-ne-some x e)
-  at_lt (y ∷ l) zero x e = zero-lt-suc _
-  at_lt (y ∷ l) (suc i) x e = suc-le-suc (at_lt l i x e)
-
-  pub at_mem : (l : List A) (i : ℕ) (x : A) → get_elem? l i ≡ some x → Memᴰ x l
-  at_mem [] i x e = absurd (none-ne-some x e)
-  at_mem (y ∷ l) zero x e = mem_head (sym (some_injective y x e))
-  at_mem (y ∷ l) (suc i) x e = mem_tail (at_mem l i x e)
-
-  pub mem-at : (l : List A) (x : A) → Memᴰ x l → (i : ℕ) × (get_elem? l i ≡ some x)
-  mem-at l x (mem_head e) = (0, ap some (sym e))
-  mem-at l x (mem_tail {xs = ys} m) = let w = mem-at ys x m in (suc w.0, w.1)
-
-  -- the member at a place passes
-  pub passes_at-is : (f : A → Bool) (l : List A) (i : ℕ) → T (passes_at f l i) ↔ ((x : A) × (get_elem? l i ≡ some x) × T (f x))
-  passes_at-is f [] i = (absurd, (λ w. absurd (none-ne-some w.0 w.1)))
-  passes_at-is f (x ∷ xs) zero = (λ t. (x, refl, t), λ w. subst (λ (y : A). T (f y)) (sym (some_injective x w.0 w.1)) w.2)
-  passes_at-is f (x ∷ xs) (suc i) = passes_at-is f xs i
-
-  pub passes_at-get_or : (f : A → Bool) (l : List A) (d : A) (i : ℕ) → i < length l → passes_at f l i ≡ f (get_or l i d)
-  passes_at-get_or f [] d i lt = absurd (not-suc-le-zero lt)
-  passes_at-get_or f (x ∷ xs) d zero lt = refl
-  passes_at-get_or f (x ∷ xs) d (suc i) lt = passes_at-get_or f xs d i (le_of_suc-le-suc lt)
-
-  pub passes_at-same : (f g : A → Bool) (l : List A) → ((x : A) → Memᴰ x l → f x ≡ g x) → (i : ℕ) → passes_at f l i ≡ passes_at g l i
-  passes_at-same f g [] h i = refl
-  passes_at-same f g (x ∷ xs) h zero = h x (mem_head refl)
-  passes_at-same f g (x ∷ xs) h (suc i) = passes_at-same f g xs (λ y at. h y (mem_tail at)) i
-
-  -- the lowest member that passes is the lowest of which the fact holds that the test is
-  pub lowest_in : (f : A → Bool) (P : A → Type 0) (l : List A)
-      → ((x : A) → Memᴰ x l → T (f x) ↔ P x)
-      → (i : ℕ)
-      → (lowest (length l) (passes_at f l) ≡ some i) ↔ LowestIn P l i
-  lowest_in f P l is i = (
-    λ e.
-        let h = (lowest-some (length l) (passes_at f l) i).0 e in
-        let w = (passes_at-is f l i).0 h.here in
-        record {
-          member = w.0;
-          numbered = w.1;
-          here = (is w.0 (at_mem l i w.0 w.1)).0 w.2;
-          lower = λ j lt x at q. clash (passes_at f l j) ((passes_at-is f l j).1 (x, at, (is x (at_mem l j x at)).1 q)) (h.lower j lt);
-        },
-    λ v.
-        lowest-is (length l) (passes_at f l) i (at_lt l i v.member v.numbered)
-        ((passes_at-is f l i).1 (v.member, v.numbered, (is v.member (at_mem l i v.member v.numbered)).1 v.here))
-        (λ j lt.
-        not_intro (passes_at f l j) (λ t.
-        let w = (passes_at-is f l j).0 t in
-        v.lower j lt w.0 w.1 ((is w.0 (at_mem l j w.0 w.1)).0 w.2))),
-  )

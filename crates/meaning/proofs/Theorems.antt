@@ -245,7 +245,7 @@ module _ (file : List ℕ) (admitted : Admitted file) where
       → (i : ℕ)
       → (answer_of_sheet (states_of file) (interpretation_of file) (predicate_arities file) clauses sheet ≡ refused 13 i)
       ↔ LowestViolation (length (states_of file)) (interpretation_of file) clauses (InSheet sheet) i
-  violations_are_exact = Certificates.check_violation (states_of file) (interpretation_of file) (predicate_arities file) clauses
+  violations_are_exact = Certificates.check-violation (states_of file) (interpretation_of file) (predicate_arities file) clauses
 
   -- Certificates are sound: a valid one without an instance of a query, one of the file's or any other, leaves no ground instance of it derivable,
   -- at any height.

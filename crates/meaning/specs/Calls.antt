@@ -106,19 +106,15 @@ pub record Analysed : Type 0 where
   pub rounds : ℕ
   pub after : Buffers
 
--- an analysis that ends with an answer: the counts, and with 0 the buffers filled; a refusal leaves them untouched
-abbrev pub analysed_with : Answer → List ℕ → Buffers → Analysed
-analysed_with answer file before =
-    record {
-      answer = answer;
-      states = counted answer (length (states_of file));
-      atoms = counted answer (length (atoms_of file));
-      rounds = counted answer (rounds_of file);
-      after = cond (ok answer) (filled file before) before;
-    }
-
 unfoldable pub analysed : List ℕ → Buffers → Analysed
-analysed file before = analysed_with (analysis_answer file before) file before
+analysed file before =
+    record {
+      answer = analysis_answer file before;
+      states = counted (analysis_answer file before) (length (states_of file));
+      atoms = counted (analysis_answer file before) (length (atoms_of file));
+      rounds = counted (analysis_answer file before) (rounds_of file);
+      after = cond (ok (analysis_answer file before)) (filled file before) before;
+    }
 
 -- what an analysis hands back with 0
 abbrev pub analysis_done : List ℕ → Buffers → Analysed

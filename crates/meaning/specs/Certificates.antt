@@ -1,9 +1,10 @@
 -- Certificates (01: the sheet): what it is for bytes to be laid out, to carry the states, to be closed and to hold an atom; the check's
 -- answers as tests; what a writer may write. A domain atom stands here as in its field: the predicate, then the row of states.
-use Rattle.std.specs.Prelude.{ℕ, suc, ◌^◌, ◌/◌, ◌%◌, max, ◌≡◌, ◌⊎◌, Bool, true, false, cond, not, ◌&&◌, ◌||◌, eqb, ltb, length, get_or, take}
+use Rattle.std.specs.Prelude.{ℕ, zero, suc, ◌^◌, ◌/◌, ◌%◌, ◌<◌, max, ◌≡◌, ◌⊎◌, Bool, true, false, cond, not, ◌&&◌, ◌||◌, eqb, ltb, length, get_or, take}
 use mathlib.Core.List.{List, [], ◌∷◌, ◌++◌, map, Memᴰ, Permᴰ}
 use Rattle.std.proofs.Math.Option.{Option, none, some}
-use Rattle.meaning.specs.Lists.{any_of, all_of, any_below, All, LowestBelow, LowestIn, NoneBelow, passes_at, same, lowest, joined, table}
+use Rattle.std.proofs.Math.ListN.{get_elem?}
+use Rattle.meaning.specs.Lists.{any_of, all_of, any_below, All, LowestBelow, NoneBelow, same, lowest, joined, table}
 use Rattle.meaning.specs.Syntax.{Clause}
 use Rattle.meaning.specs.Limits.{state_tag, atom_tag}
 use Rattle.meaning.specs.Fields.{Field, whole, cut, word, fields, contents_of, encode_field, first_field}
@@ -91,7 +92,9 @@ violated m interpret atoms c =
     all_of (instance_in interpret ν (among atoms)) c.body && not (instance_in interpret ν (among atoms) c.head))
 
 abbrev pub violated_at : ℕ → (ℕ → List ℕ → ℕ) → List (List ℕ) → List Clause → ℕ → Bool
-violated_at m interpret atoms clauses i = passes_at (violated m interpret atoms) clauses i
+violated_at m interpret atoms [] i = false
+violated_at m interpret atoms (c ∷ clauses) zero = violated m interpret atoms c
+violated_at m interpret atoms (c ∷ clauses) (suc i) = violated_at m interpret atoms clauses i
 
 -- the same as facts: an instance of a clause with its body in a set and its head not; the lowest clause that has one
 module _ (m : ℕ) (interpret : ℕ → List ℕ → ℕ) where
@@ -101,8 +104,11 @@ module _ (m : ℕ) (interpret : ℕ → List ℕ → ℕ) where
     pub body_in : All (InstanceIn interpret valuation S) c.body
     pub head_out : ¬ InstanceIn interpret valuation S c.head
 
-  abbrev pub LowestViolation : List Clause → AtomSet → ℕ → Type 0
-  LowestViolation clauses S i = LowestIn (Violation S) clauses i
+  pub record LowestViolation (clauses : List Clause) (S : AtomSet) (i : ℕ) : Type 0 where
+    pub clause : Clause
+    pub numbered : get_elem? clauses i ≡ some clause
+    pub violation : Violation S clause
+    pub lower : (j : ℕ) → j < i → (c : Clause) → get_elem? clauses j ≡ some c → ¬ Violation S c
 
 -- a refusal at the lowest place that a test fits, if there is one, else what comes after
 abbrev pub refused_at : ℕ → Option ℕ → Answer → Answer

@@ -11,7 +11,6 @@ use Rattle.meaning.specs.States.{MoreStates}
 use Rattle.meaning.specs.Files.{rules_of}
 use Rattle.meaning.specs.Certificates.{encode_sheet, GivenSheet}
 use Rattle.meaning.specs.Calls.{predicate_arities, states_of, interpretation_of, atoms_of, Buffers, LongEnough, Lent, LentEnough}
-use Rattle.meaning.specs.Tracing.{TraceBuffers, TraceEnough}
 
 -- n is the number of the first of five tests that passes, in 01's order: 2, 3, 6, 4, 5; none of them passes
 abbrev pub FirstOf : Bool → Bool → Bool → Bool → Bool → ℕ → Type 0
@@ -72,10 +71,6 @@ module _ (file : List ℕ) where
   -- an analysis: then 9
   abbrev pub GivenAnalysis : Buffers → ℕ → ℕ → Type 0
   GivenAnalysis before n k = Given n k ⊎ ((n ≡ 9) × (k ≡ 0) × Accepted × ¬ LongEnough file before)
-
-  -- an analysis with the clause and the round of each atom (02, P1): then 9
-  abbrev pub GivenTrace : TraceBuffers → ℕ → ℕ → Type 0
-  GivenTrace before n k = Given n k ⊎ ((n ≡ 9) × (k ≡ 0) × Accepted × ¬ TraceEnough file before)
 
   -- writing a sheet: then 14
   abbrev pub GivenWriting : Buffers → List ℕ → ℕ → ℕ → Type 0

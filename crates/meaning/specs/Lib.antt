@@ -14,11 +14,8 @@ pub mod Files
 pub mod Clauses
 pub mod Ground
 pub mod Certificates
-pub mod Provenance
 pub mod Calls
-pub mod Tracing
 pub mod Given
 pub mod Demand1
 pub mod Demand2
 pub mod Demand3
-pub mod Request1

@@ -33,10 +33,6 @@ first_variable = 128
 abbrev pub free_byte : ℕ
 free_byte = 255
 
--- the clause byte of a cell outside the model (02, P1)
-abbrev pub no_clause_byte : ℕ
-no_clause_byte = 255
-
 -- the kinds of fields, with their tags and the most of each
 pub data Kind : Type 0 where
   symbol type production predicate clause query : Kind

@@ -1,7 +1,6 @@
 -- Lists, and tests and facts over lists and numbers. A test is a Bool and computes; `T test` is the fact that it passes.
-use Rattle.std.specs.Prelude.{ℕ, zero, suc, ◌+◌, ◌-◌, ◌<◌, ◌≡◌, Bool, true, false, cond, not, ◌&&◌, ◌||◌, List, [], ◌∷◌, ◌++◌, T, eqb, length, get_or, replicate}
+use Rattle.std.specs.Prelude.{ℕ, zero, suc, ◌+◌, ◌-◌, ◌<◌, Bool, true, false, cond, not, ◌&&◌, ◌||◌, List, [], ◌∷◌, ◌++◌, T, eqb, length, get_or, replicate}
 use Rattle.std.proofs.Math.Option.{Option, none, some}
-use Rattle.std.proofs.Math.ListN.{get_elem?}
 
 module _ {A : Type 0} where
   -- some member passes
@@ -13,12 +12,6 @@ module _ {A : Type 0} where
   abbrev pub all_of : (A → Bool) → List A → Bool
   all_of f [] = true
   all_of f (x ∷ xs) = f x && all_of f xs
-
-  -- the member at a place passes
-  abbrev pub passes_at : (A → Bool) → List A → ℕ → Bool
-  passes_at f [] i = false
-  passes_at f (x ∷ xs) zero = f x
-  passes_at f (x ∷ xs) (suc i) = passes_at f xs i
 
   -- a fact of every member
   abbrev pub All : (A → Type 0) → List A → Type 0
@@ -57,13 +50,6 @@ pub record LowestBelow (n : ℕ) (f : ℕ → Bool) (k : ℕ) : Type 0 where
 
 abbrev pub NoneBelow : ℕ → (ℕ → Bool) → Type 0
 NoneBelow n f = (j : ℕ) → j < n → T (not (f j))
-
--- the lowest member of a list of which a fact holds, by its number
-pub record LowestIn {A : Type 0} (P : A → Type 0) (l : List A) (i : ℕ) : Type 0 where
-  pub member : A
-  pub numbered : get_elem? l i ≡ some member
-  pub here : P member
-  pub lower : (j : ℕ) → j < i → (x : A) → get_elem? l j ≡ some x → ¬ P x
 
 -- strictly rising
 abbrev pub Rising : List ℕ → Type 0

@@ -22,9 +22,6 @@ pub const FIRST_VARIABLE: u8 = 128;
 
 pub const FREE: u8 = 255;
 
-// The clause byte of a cell outside the model.
-pub const NO_CLAUSE: u8 = 255;
-
 // The tags of a rule file's fields, and the most of each.
 pub const SYMBOL_TAG: u8 = 1;
 

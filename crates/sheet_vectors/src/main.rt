@@ -3,12 +3,13 @@
 // Prints a line for each difference, and the counts of each folder.
 ghost use Rattle.std.specs.Prelude.{◌+◌, ◌≤◌, ◌<◌, ◌≡◌, true, length, get_or};
 ghost use Rattle.meaning.specs.Fields.{word};
-ghost use Rattle.folders.specs.Paths.{IsPath};
 ghost use Rattle.sheet_vectors.specs.Expected.{IsSheet};
 
-use folders::{Outcome, Tally};
+use folders::Outcome;
 
-// Room for what stands beside a file and a byte more.
+// Room for the domain atoms of the files played, and for what stands beside one and a byte more.
+const MARKS: usize = 8192;
+
 const TEXT: usize = 8192;
 
 // What is expected of a sheet: the answer's number, from here on its place in two bytes, how many table cells there are in two, these, and the sheet itself.
@@ -58,11 +59,15 @@ fn is_checked(file: &[u8], expected: &[u8], tables: &mut [u8], marks: &mut [u8])
     byte_runs::same(&tables[..size], &expected[CELLS..from])
 }
 
-// Whether a sheet is answered, and the tables written, as expected.
-fn compare_check(file: &[u8], expected: &[u8]) -> bool {
+// Whether a sheet is answered, and the tables written, as expected; if not, that is printed.
+fn compare_check(path: &[u8], file: &[u8], expected: &[u8]) -> bool {
     let mut tables = [0u8; buffers::TABLES];
-    let mut marks = [0u8; buffers::MARKS];
-    is_checked(file, expected, &mut tables, &mut marks)
+    let mut marks = [0u8; MARKS];
+    if is_checked(file, expected, &mut tables, &mut marks) {
+        return true;
+    }
+    folders::print_about(path, b"other answer to the sheet, or other tables");
+    false
 }
 
 // Whether some bytes are the sheet that is written for a file, in the lent buffers.
@@ -86,16 +91,16 @@ fn is_sheet(
     byte_runs::same(&sheet[..n], expected)
 }
 
-// Whether some bytes are the sheet that is written for a file.
-fn compare_sheet(file: &[u8], expected: &[u8]) -> bool
+// Whether some bytes are the sheet that is written for a file; if not, that is printed.
+fn compare_sheet(path: &[u8], file: &[u8], expected: &[u8]) -> bool
     ensures { result ≡ true → IsSheet file.now expected.now }
 {
     let mut states = [0u16; buffers::STATES];
     let mut tables = [0u8; buffers::TABLES];
-    let mut marks = [0u8; buffers::MARKS];
+    let mut marks = [0u8; MARKS];
     let mut verdicts = [0u8; buffers::VERDICTS];
     let mut sheet = [0u8; TEXT];
-    is_sheet(
+    let is = is_sheet(
         file,
         expected,
         &mut states,
@@ -103,14 +108,19 @@ fn compare_sheet(file: &[u8], expected: &[u8]) -> bool
         &mut marks,
         &mut verdicts,
         &mut sheet,
-    )
+    );
+    if is {
+        return true;
+    }
+    folders::print_about(path, b"other sheet");
+    false
 }
 
 // By one of the ways.
-fn compare_by(way: Way, file: &[u8], beside: &[u8]) -> bool {
+fn compare_by(way: Way, path: &[u8], file: &[u8], beside: &[u8]) -> bool {
     match way {
-        Way::Check => compare_check(file, beside),
-        Way::Sheet => compare_sheet(file, beside),
+        Way::Check => compare_check(path, file, beside),
+        Way::Sheet => compare_sheet(path, file, beside),
     }
 }
 
@@ -124,47 +134,40 @@ fn play_file(rules: &[u8], beside: &[u8], way: Way) -> Outcome {
     let mut text = [0u8; TEXT];
     let other = folders::read_beside(beside, &mut text);
     if !other.found {
-        return Outcome::Alone;
+        return Outcome::Different;
     }
     let n = read.bytes;
     let m = other.bytes;
-    if compare_by(way, &file[..n], &text[..m]) {
+    if compare_by(way, rules, &file[..n], &text[..m]) {
         return Outcome::Same;
     }
     Outcome::Different
 }
 
-// The files of a folder, from 000 to the first that is missing, by the paths of a rule file and of what stands beside it and where their digits stand.
-fn play_files(rules: &mut [u8], beside: &mut [u8], at: usize, way: Way, out: &mut [u8]) -> Tally
-    requires { (at + 3 ≤ length rules.old) × (length rules.old ≤ 32) × (at + 3 ≤ length beside.old) × (length beside.old ≤ 32) × (128 ≤ length out.old) }
+// The files of a folder, from 000 to the first that is missing.
+fn play(folder: &[u8], rules: &mut [u8], beside: &mut [u8], way: Way)
+    requires { (8 ≤ length rules.old) × (8 ≤ length beside.old) }
 {
     let mut files: usize = 0;
     let mut differences: usize = 0;
     while files < folders::FILES {
-        folders::put_digits(rules, at, files);
-        folders::put_digits(beside, at, files);
-        let outcome = play_file(rules, beside, way);
-        if folders::is_missing(outcome) {
-            return Tally { files, differences };
+        folders::put_digits(rules, files);
+        folders::put_digits(beside, files);
+        match play_file(rules, beside, way) {
+            Outcome::Missing => {
+                folders::print_counts(folder, files, differences);
+                return;
+            }
+            Outcome::Same => {
+                files += 1;
+            }
+            Outcome::Different => {
+                files += 1;
+                differences += 1;
+            }
         }
-        differences += folders::print_outcome(
-            out,
-            outcome,
-            rules,
-            beside,
-            b"other answer, tables or sheet",
-        );
-        files += 1;
     }
-    Tally { files, differences }
-}
-
-fn play(folder: &[u8], rules: &mut [u8], beside: &mut [u8], way: Way)
-    requires { IsPath folder.now rules.old × IsPath folder.now beside.old }
-{
-    let mut out = io::buffer();
-    let tally = play_files(rules, beside, folder.len() + 1, way, &mut out);
-    folders::print_counts(&mut out, folder, tally);
+    folders::print_counts(folder, files, differences);
 }
 
 fn play_pass() {

@@ -7,9 +7,7 @@ use Rattle.automaton.specs.Sets.{given_sets}
 use Rattle.automaton.specs.Marking.{Fillable}
 use Rattle.states.specs.Asked.{Limited, most_cells}
 use Rattle.states.specs.Packed.{indices}
-use Rattle.cells.proofs.Powers.{power_most}
-use Rattle.cells.proofs.Segments.{cells-most}
-use Rattle.states.proofs.Tables.{length-reached, indices-tables}
+use Rattle.states.proofs.Tables.{length-reached, indices-tables, cells-most}
 
 in_zeros : (n k : ℕ) → k ≤ n → k ≤ length {A = ℕ} (replicate n 0)
 in_zeros n k h = simp length-replicate h
@@ -25,7 +23,7 @@ module _ (arities : List ℕ) (types : ℕ) (limited : Limited arities types) wh
         symbols = omega (arith, limited.symbols);
         small = small;
         room =
-            in_zeros most_cells (cells (length states) arities) (omega (arith, limited.symbols, cells-most (length states) 256 arities (All-map arities (λ n le. power_most (length states) n 2 few le) limited.small)));
+            in_zeros most_cells (cells (length states) arities) (omega (arith, limited.symbols, cells-most (length states) arities few limited.small));
       }
 
 -- a buffer of zeros after it is filled, and how many places the sets take

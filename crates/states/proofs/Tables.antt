@@ -1,11 +1,16 @@
 -- The tables: the sets that symbols give over all rows of the states, how many they are, and their numbers among the states. Assumes nothing.
-use Rattle.meaning.proofs.Prelude.{ℕ, ◌+◌, ◌<◌, suc, ◌^◌, ◌≡◌, refl, ◌∙◌, ap₂, List, [], ◌∷◌, map, ◌++◌, map-append, length}
+use Rattle.meaning.proofs.Prelude.{ℕ, ◌+◌, ◌≤◌, ◌<◌, zero, suc, ◌^◌, ◌*◌, ◌≡◌, refl, ap, ◌∙◌, ap₂, List, [], ◌∷◌, map, ◌++◌, map-append, length}
 use Rattle.meaning.proofs.Prelude.{length-append, length-map, get_or, take, drop, set, length-take-le, drop-cons, take-suc, append_snoc, set_at}
-use Rattle.meaning.proofs.Prelude.{add-one, arith}
-use Rattle.meaning.proofs.Definitions.{joined, cells, row_of, numbered, index_of, sets_at, reached, cell_of, tables_from, tables}
-use Rattle.meaning.proofs.Lists.{length-table, map-table}
+use Rattle.meaning.proofs.Prelude.{le_trans, zero-lt-suc, pow-le-pow_left, pow-le-pow_right, add-one, arith}
+use Rattle.meaning.proofs.Definitions.{All, joined, table, cells, row_of, numbered, index_of, sets_at, reached, cell_of, tables_from, tables}
+use Rattle.meaning.proofs.Lists.{length-table}
 use Rattle.meaning.proofs.Types.{symbol_of}
 use Rattle.states.specs.Packed.{indices}
+
+-- a function over a table
+map-table : (f : ℕ → ℕ) (n : ℕ) (g : ℕ → ℕ) → map f (table n g) ≡ table n (λ i. f (g i))
+map-table f zero g = refl
+map-table f (suc n) g = ap (λ (l : List ℕ). f (g 0) ∷ l) (map-table f n (λ i. g (suc i)))
 
 -- the sets that symbols give over all rows of some sets: how many, and their numbers
 module _ (st : ℕ → List ℕ → ℕ) (states : List ℕ) where
@@ -43,3 +48,10 @@ indices-next states sets before i h k =
     let size : length (map (λ s. index_of s states) (take i sets)) ≡ i = length-map (take i sets) (λ s. index_of s states) ∙ length-take-le i sets (omega arith) in
     rw
     (drop-cons before i 0 k, set_at (map (λ s. index_of s states) (take i sets)) (get_or before i 0) (drop (suc i) before) (index_of (get_or sets i 0) states) i size, add-one i, take-suc sets i 0 h, map-append, append_snoc)
+
+-- at most 24 symbols of arity at most 2 over at most 16 states
+pub cells-most : (m : ℕ) (arities : List ℕ) → m ≤ 16 → All (λ n. n ≤ 2) arities → cells m arities ≤ 256 * length arities
+cells-most m [] h a = omega arith
+cells-most m (n ∷ arities) h a =
+    let power : m ^ n ≤ 256 = le_trans (pow-le-pow_left h n) (pow-le-pow_right {n = 16} (zero-lt-suc 15) {i = n} {j = 2} a.0) in
+    omega (arith, cells-most m arities h a.1)

@@ -4,7 +4,7 @@
 use Rattle.meaning.proofs.Prelude.{ℕ, ◌+◌, ◌≤◌, ◌-◌, ◌<◌, zero, suc, ◌^◌, ◌*◌, ◌/◌, ◌%◌, ◌≡◌, refl, sym, ap, ◌∙◌, ⊎_elim, ◌⊎◌, inl, inr, List, []}
 use Rattle.meaning.proofs.Prelude.{◌∷◌, ◌++◌, Memᴰ, mem-eq_of_singleton, mem-append_cases, length, length-append, get_or}
 use Rattle.meaning.proofs.Prelude.{get_or-append, zero-lt-suc, pow-suc, div-lt_iff_lt-mul, add-one, dec_lt, arith, lt-ltb, le-ltb}
-use Rattle.text.specs.Decimal.{digit, digits_in, decimal, number_after, value_after, value}
+use Rattle.text.specs.Decimal.{digit, digits_in, decimal, value_after, value}
 
 -- some numbers
 decimal_0 : decimal 0 ≡ 48 ∷ []
@@ -90,11 +90,6 @@ length_most =
 
 pub length_u64 : (n : ℕ) → n < 2 ^ 64 → length (decimal n) ≤ 20
 length_u64 n h = length_most n 19 (omega arith)
-
--- with a word before it
-pub number_size : (word : List ℕ) (n : ℕ) → n < 2 ^ 64 → length (number_after word n) ≤ length word + 20
-unfolding number_after
-number_size word n h = omega (arith, length-append word (decimal n), length_u64 n h)
 
 -- what the digits are worth
 value-append : (v : ℕ) (a b : List ℕ) → value_after v (a ++ b) ≡ value_after (value_after v a) b

@@ -15,10 +15,6 @@ digits_in (suc steps) n = elim (ltb n 10) [ true ↦ digit n ∷ [] | false ↦ 
 unfoldable pub decimal : ℕ → List ℕ
 decimal n = digits_in (suc n) n
 
--- a word and a number
-unfoldable pub number_after : List ℕ → ℕ → List ℕ
-number_after word n = word ++ decimal n
-
 -- what bytes are worth that are read as digits after a number that is read already
 unfoldable pub value_after : ℕ → List ℕ → ℕ
 value_after v [] = v

@@ -1,7 +1,7 @@
-// Numbers in decimal, alone or after a word, put into a buffer from a position on, and how many digits they have.
+// Numbers in decimal put into a buffer from a position on, and how many digits they have.
 ghost use Rattle.std.specs.Prelude.{◌+◌, ◌%◌, ◌≤◌, ◌<◌, ◌≡◌, length};
-ghost use Rattle.text.specs.Decimal.{digit, decimal, number_after};
-ghost use Rattle.byte_runs.specs.Pasted.{pasted, Put};
+ghost use Rattle.text.specs.Decimal.{digit, decimal};
+ghost use Rattle.byte_runs.specs.Pasted.{pasted};
 
 // How many digits a number has.
 pub fn decimal_length(n: usize) -> usize
@@ -37,13 +37,4 @@ pub fn put_decimal(out: &mut [u8], at: usize, n: usize) -> usize
         rest = rest / 10;
     }
     end
-}
-
-// A word and a number.
-pub fn put_number(out: &mut [u8], at: usize, word: &[u8], n: usize) -> usize
-    requires { at + length (number_after word.now n) ≤ length out.old }
-    ensures { Put out.old at (number_after word.now n) out.new result }
-{
-    let next = byte_runs::put_bytes(out, at, word);
-    put_decimal(out, next, n)
 }

@@ -1,12 +1,10 @@
 //! Measures, in one run, the proved library against two plain programs, against the independent
 //! implementation, and against gringo where it is installed: the files of rules/bench, and files
 //! that grow in one number. Times are the least of several runs, in a process of their own each,
-//! which is ended at a limit; those that end must give the same answer. The library's trace is
-//! measured against its analysis.
+//! which is ended at a limit; those that end must give the same answer.
 //!
 //!     bench [--without-slow]
 //!     bench files [name ..]
-//!     bench trace [name ..]
 //!     bench before PROGRAM [name ..]     PROGRAM is a bench linked with an earlier library
 
 mod family;
@@ -49,25 +47,16 @@ type Answer = (usize, usize, Vec<u8>);
 /// The whole job.
 type Program = fn(&[u8]) -> Answer;
 
-/// Those who do the whole job, by their names on the command line; the first two are the library's
-/// calls.
-const PROGRAMS: [(&str, Program); 5] = [
+/// Those who do the whole job, by their names on the command line; the library is the first.
+const PROGRAMS: [(&str, Program); 4] = [
     ("library", library),
-    ("tracing", tracing),
     ("seminaive", seminaive::solve),
     ("rows", rows::solve),
     ("reference", solve),
 ];
 
 fn library(file: &[u8]) -> Answer {
-    found(rules::analyse(file).expect("an answer"))
-}
-
-fn tracing(file: &[u8]) -> Answer {
-    found(rules::trace(file).expect("an answer").analysis)
-}
-
-fn found(analysis: rules::Analysis) -> Answer {
+    let analysis = rules::analyse(file).expect("an answer");
     let open = |&verdict| u8::from(verdict == rules::Verdict::Open);
     let verdicts = analysis.verdicts.iter().map(open).collect();
     (analysis.atoms, analysis.rounds, verdicts)
@@ -233,8 +222,7 @@ impl Table {
 
     fn measure(self, name: &str, file: &[u8], limit: Duration) {
         let own = own_path();
-        let programs = ["library", "seminaive", "rows", "reference"];
-        let programs = programs.map(|who| (own.as_path(), who));
+        let programs = PROGRAMS.map(|(who, _)| (own.as_path(), who));
         let ([library, seminaive, rows, reference], answer) = times(name, programs, file, limit);
         let better = seminaive.better(rows);
         let mut cells = vec![name.to_string(), model(answer.as_deref()), library.shown()];
@@ -304,24 +292,6 @@ fn print_before(earlier: &Path, names: &[&str]) {
     }
 }
 
-/// The library's trace beside its analysis.
-fn print_traces(names: &[&str]) {
-    print_heading(&["file", "model", "analysis", "trace", "ratio"]);
-    let own = own_path();
-    let programs = ["library", "tracing"].map(|who| (own.as_path(), who));
-    for name in names {
-        let (file, limit) = bench_file(name);
-        let ([analysis, trace], answer) = times(name, programs, &file, limit);
-        print_row(&[
-            name.to_string(),
-            model(answer.as_deref()),
-            analysis.shown(),
-            trace.shown(),
-            trace.ratio(analysis),
-        ]);
-    }
-}
-
 fn print_families(gringo: bool) {
     let both = false;
     let table = Table { both, gringo };
@@ -360,21 +330,16 @@ fn main() {
     match words.as_slice() {
         [] => {
             let gringo = has_gringo();
-            let names = [&FILES[..], &SLOW].concat();
-            print_files(gringo, &names);
+            print_files(gringo, &[&FILES[..], &SLOW].concat());
             print_families(gringo);
-            print_traces(&names);
         }
         ["--without-slow"] => {
             let gringo = has_gringo();
             print_files(gringo, &FILES);
             print_families(gringo);
-            print_traces(&FILES);
         }
         ["files"] => print_files(has_gringo(), &FILES),
         ["files", names @ ..] => print_files(has_gringo(), names),
-        ["trace"] => print_traces(&FILES),
-        ["trace", names @ ..] => print_traces(names),
         ["before", earlier] => print_before(Path::new(earlier), &FILES),
         ["before", earlier, names @ ..] => print_before(Path::new(earlier), names),
         [who, path] if work(who).is_some() => {
@@ -384,7 +349,7 @@ fn main() {
                 .for_each(|program| print_least(program.1, &file));
         }
         _ => eprintln!(
-            "bench [--without-slow], bench files [name ..], bench trace [name ..], or bench before PROGRAM [name ..]"
+            "bench [--without-slow], bench files [name ..], or bench before PROGRAM [name ..]"
         ),
     }
 }

@@ -2,36 +2,21 @@
 //! reference.
 
 use crate::lent::Lent;
-use reference::{
-    Accepted, Answer, Buffers, Clause, OriginBuffers, Refusal, Solved, Term, NO_CLAUSE,
-};
+use reference::{Accepted, Answer, Buffers, Clause, Refusal, Solved, Term};
 
-/// The four calls.
+/// The three calls.
 #[derive(Clone, Copy, Debug, PartialEq, Eq)]
 pub enum Call {
     /// Analyse.
     Analyse,
-    /// Analyse, with the origins of the atoms.
-    Trace,
     /// Write a sheet.
     Write,
     /// Check a sheet.
     Check,
 }
 
-impl Call {
-    /// Which of states, tables, marks, verdicts, clauses and rounds the call is lent.
-    pub fn used(self) -> &'static [usize] {
-        match self {
-            Call::Analyse | Call::Write => &[0, 1, 2, 3],
-            Call::Trace => &[0, 1, 2, 3, 4, 5],
-            Call::Check => &[1, 2],
-        }
-    }
-}
-
 /// The calls in the order in which they are tallied.
-pub const CALLS: [Call; 4] = [Call::Analyse, Call::Trace, Call::Write, Call::Check];
+pub const CALLS: [Call; 3] = [Call::Analyse, Call::Write, Call::Check];
 
 /// What the subject is.
 #[cfg(feature = "library")]
@@ -54,12 +39,7 @@ pub fn subject(call: Call, file: &[u8], sheet: &[u8], lent: &mut Lent) -> Answer
             marks,
             verdicts: lent.verdicts.part(),
         };
-        let origins = raw::OriginBuffers {
-            clauses: lent.clauses.part(),
-            rounds: lent.rounds.part(),
-        };
         match call {
-            Call::Trace => raw::trace(file, buffers, origins),
             Call::Write => raw::write(file, buffers, lent.sheet.part()),
             _ => raw::analyse(file, buffers),
         }
@@ -87,12 +67,7 @@ pub fn subject(call: Call, file: &[u8], sheet: &[u8], lent: &mut Lent) -> Answer
         marks,
         verdicts: lent.verdicts.part(),
     };
-    let origins = OriginBuffers {
-        clauses: lent.clauses.part(),
-        rounds: lent.rounds.part(),
-    };
     match call {
-        Call::Trace => reference::trace(file, buffers, origins),
         Call::Write => reference::write(file, buffers, lent.sheet.part()),
         _ => reference::analyse(file, buffers),
     }
@@ -107,8 +82,6 @@ pub enum Plant {
     NoEmptySet,
     /// One round too many is counted after the second.
     Rounds,
-    /// The highest clause that brings an atom is handed back, not the lowest.
-    LastClause,
 }
 
 impl Plant {
@@ -118,7 +91,6 @@ impl Plant {
             "two-states" => Some(Plant::TwoStates),
             "no-empty-set" => Some(Plant::NoEmptySet),
             "rounds" => Some(Plant::Rounds),
-            "last-clause" => Some(Plant::LastClause),
             _ => None,
         }
     }
@@ -159,47 +131,20 @@ impl Reference {
             marks,
             verdicts: lent.verdicts.part(),
         };
-        let origins = OriginBuffers {
-            clauses: lent.clauses.part(),
-            rounds: lent.rounds.part(),
-        };
         let mut answer = match call {
-            Call::Trace => solved.trace(buffers, origins),
             Call::Write => solved.write(buffers, lent.sheet.part()),
             _ => solved.analyse(buffers),
         };
-        if answer.number == 0 {
-            self.put_fault(call, solved, lent, &mut answer);
-        }
-        answer
-    }
-
-    /// Puts the planted fault into the answer and the buffers.
-    fn put_fault(&self, call: Call, solved: &Solved, lent: &mut Lent, answer: &mut Answer) {
         match self.plant {
             Some(Plant::NoEmptySet) if answer.states > 1 && lent.states.part()[0] == 0 => {
                 answer.states -= 1;
                 lent.states.part().copy_within(1.., 0);
             }
             Some(Plant::Rounds) if answer.rounds > 2 => answer.rounds += 1,
-            Some(Plant::LastClause) if call == Call::Trace => {
-                let clauses = last_clauses(&solved.accepted);
-                lent.clauses.part()[..clauses.len()].copy_from_slice(&clauses);
-            }
             _ => {}
         }
+        answer
     }
-}
-
-/// The highest clause that brings each atom in its round: the lowest, with the clauses in reverse.
-pub fn last_clauses(accepted: &Accepted) -> Vec<u8> {
-    let mut reversed = accepted.clone();
-    reversed.rules.clauses.reverse();
-    let count = reversed.rules.clauses.len() as u8;
-    let (mut clauses, _) = reversed.origins();
-    let of_model = clauses.iter_mut().filter(|clause| **clause != NO_CLAUSE);
-    of_model.for_each(|clause| *clause = count - 1 - *clause);
-    clauses
 }
 
 /// Gives the first place that repeats a variable of the clause a variable of its own.

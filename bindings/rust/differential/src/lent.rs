@@ -39,29 +39,16 @@ pub struct Lent {
     pub marks: Guarded<u8>,
     /// The verdicts.
     pub verdicts: Guarded<u8>,
-    /// The clauses of the domain atoms.
-    pub clauses: Guarded<u8>,
-    /// The rounds of the domain atoms.
-    pub rounds: Guarded<u32>,
     /// The sheet to be written.
     pub sheet: Guarded<u8>,
 }
 
 impl Lent {
     /// Draws buffers for a call whose answer needs these lengths: as long as needed, longer, one of
-    /// them one short, or of any length; filled with anything. `used` says which of the first six
-    /// a short one is drawn from.
+    /// them one short, or of any length; filled with anything. `used` says which of the four a
+    /// short one is drawn from.
     pub fn draw(random: &mut Random, needs: Needs, used: &[usize], sheet: usize) -> Lent {
-        let marks = needs.marks;
-        let needed = [
-            needs.states,
-            needs.tables,
-            marks,
-            needs.verdicts,
-            marks,
-            marks,
-        ];
-        let mut lengths = needed;
+        let mut lengths = [needs.states, needs.tables, needs.marks, needs.verdicts];
         match random.weighted(&[(45, 0), (25, 1), (22, 2), (8, 3)]) {
             0 => {}
             1 => lengths = lengths.map(|length| length + random.below(20)),
@@ -70,7 +57,8 @@ impl Lent {
                 if random.chance(30) {
                     lengths = lengths.map(|length| length + random.below(3));
                 }
-                lengths[short] = needed[short].saturating_sub(1);
+                let needed = [needs.states, needs.tables, needs.marks, needs.verdicts][short];
+                lengths[short] = needed.saturating_sub(1);
             }
             _ => lengths = lengths.map(|length| random.within(0..=length + 20)),
         }
@@ -80,14 +68,12 @@ impl Lent {
             2 => sheet.saturating_sub(1),
             _ => random.below(sheet + 1),
         };
-        let [states, tables, marks, verdicts, clauses, rounds] = lengths;
+        let [states, tables, marks, verdicts] = lengths;
         Lent {
             states: Guarded::new(states, || random.next() as u16),
             tables: Guarded::new(tables, || random.byte()),
             marks: Guarded::new(marks, || random.byte()),
             verdicts: Guarded::new(verdicts, || random.byte()),
-            clauses: Guarded::new(clauses, || random.byte()),
-            rounds: Guarded::new(rounds, || random.next() as u32),
             sheet: Guarded::new(sheet, || random.byte()),
         }
     }
@@ -111,8 +97,6 @@ impl Lent {
             ("tables", self.tables != other.tables),
             ("marks", self.marks != other.marks),
             ("verdicts", self.verdicts != other.verdicts),
-            ("clauses", self.clauses != other.clauses),
-            ("rounds", self.rounds != other.rounds),
             ("sheet", self.sheet != other.sheet),
         ]
         .into_iter()

@@ -2,8 +2,7 @@
 //! and every number, place, count and byte is compared. Exits with 1 if anything differs or comes
 //! up too seldom.
 //!
-//! `differential [--count N] [--seed S] [--only I]
-//! [--plant [two-states | no-empty-set | rounds | last-clause]]`
+//! `differential [--count N] [--seed S] [--only I] [--plant [two-states | no-empty-set | rounds]]`
 
 #![forbid(unsafe_code)]
 
@@ -78,7 +77,7 @@ struct Run {
 }
 
 impl Run {
-    /// Makes one input, a file with a sheet, and compares the four calls on it, each with buffers
+    /// Makes one input, a file with a sheet, and compares the three calls on it, each with buffers
     /// of its own.
     fn input(&mut self, input: u64) {
         let random = &mut Random::new(self.options.seed, input);
@@ -93,13 +92,20 @@ impl Run {
         self.inputs += 1;
         let mut time = Duration::ZERO;
         for call in CALLS {
-            let mut due_lent = Lent::draw(random, needs, call.used(), written);
+            let used: &[usize] = match call {
+                Call::Check => &[1, 2],
+                _ => &[0, 1, 2, 3],
+            };
+            let mut due_lent = Lent::draw(random, needs, used, written);
             let mut lent = due_lent.clone();
             let start = Instant::now();
             let answer = desks::subject(call, &file, &sheet, &mut lent);
             time += start.elapsed();
             let due = reference.answer(call, &sheet, &mut due_lent);
-            self.tally.answer(call, &due, &file, solved);
+            self.tally.answer(call, &due);
+            if let (Call::Analyse, 0, Some(solved)) = (call, due.number, solved) {
+                self.tally.analysed(&file, solved);
+            }
             if call == Call::Write && due.number == 0 {
                 lent.order_atoms(due.states, due.bytes);
                 due_lent.order_atoms(due.states, due.bytes);

@@ -1,6 +1,6 @@
 //! How often each kind of answer came up.
 
-use crate::desks::{last_clauses, Call, CALLS};
+use crate::desks::{Call, CALLS};
 use crate::fields;
 use reference::{Answer, Solved, MOST, MOST_CONTENT, MOST_STATES};
 use std::fmt;
@@ -11,13 +11,11 @@ const LEAST: usize = 100;
 /// The counts of a run.
 #[derive(Default)]
 pub struct Tally {
-    numbers: [[usize; 15]; CALLS.len()],
+    numbers: [[usize; 15]; 3],
     open: usize,
     clear: usize,
     sixteen: usize,
     rounds: usize,
-    /// Files with an atom that more than one clause brings in its round.
-    choices: usize,
     empty_set: usize,
     six_variables: usize,
     /// Files with a kind at its most, tags 1 to 6.
@@ -30,7 +28,7 @@ pub struct Tally {
 
 impl Tally {
     /// Counts a file whose analysis handed back 0.
-    fn analysed(&mut self, file: &[u8], solved: &Solved) {
+    pub fn analysed(&mut self, file: &[u8], solved: &Solved) {
         let open = (solved.verdicts.iter())
             .filter(|&&verdict| verdict == 1)
             .count();
@@ -56,20 +54,9 @@ impl Tally {
         self.longest += usize::from(file.len() == 26_300);
     }
 
-    /// Counts a file whose trace handed back 0.
-    fn traced(&mut self, solved: &Solved) {
-        let (clauses, _) = solved.accepted.origins();
-        self.choices += usize::from(clauses != last_clauses(&solved.accepted));
-    }
-
-    /// Counts an answer for a file, which is solved unless it is refused.
-    pub fn answer(&mut self, call: Call, answer: &Answer, file: &[u8], solved: Option<&Solved>) {
+    /// Counts an answer.
+    pub fn answer(&mut self, call: Call, answer: &Answer) {
         self.numbers[call as usize][answer.number] += 1;
-        match (call, answer.number, solved) {
-            (Call::Analyse, 0, Some(solved)) => self.analysed(file, solved),
-            (Call::Trace, 0, Some(solved)) => self.traced(solved),
-            _ => {}
-        }
     }
 
     /// What has to come up, with its count.
@@ -86,7 +73,6 @@ impl Tally {
         due.push(("CLEAR".into(), self.clear));
         due.push(("16 states".into(), self.sixteen));
         due.push(("more than two rounds".into(), self.rounds));
-        due.push(("an atom of several clauses".into(), self.choices));
         due
     }
 
@@ -102,7 +88,7 @@ impl Tally {
 /// Whether a call can hand back a number.
 fn possible(call: Call, number: usize) -> bool {
     match call {
-        Call::Analyse | Call::Trace => number <= 9,
+        Call::Analyse => number <= 9,
         Call::Write => number <= 9 || number == 14,
         Call::Check => number <= 13,
     }
@@ -127,8 +113,8 @@ impl fmt::Display for Tally {
         }
         writeln!(
             formatter,
-            "OPEN {}, CLEAR {}; files of 16 states {}, of more than two rounds {}, with an atom of several clauses {}",
-            self.open, self.clear, self.sixteen, self.rounds, self.choices
+            "OPEN {}, CLEAR {}; files of 16 states {}, of more than two rounds {}",
+            self.open, self.clear, self.sixteen, self.rounds
         )?;
         writeln!(
             formatter,

@@ -1,10 +1,9 @@
-//! The rule desk in plain Rust, written from the specification (01-scope.md and, for the origins of
-//! atoms, request P1 of 02-change-requests.md) alone, apart from the proved library, which is
-//! compared with it. Numbers and places are the specification's.
+//! The rule desk in plain Rust, written from the specification (01-scope.md) alone, apart from the
+//! proved library, which is compared with it. Numbers and places are the specification's.
 //!
-//! [`analyse`], [`trace`], [`write()`] and [`check`] are the four calls over lent buffers,
-//! [`listing`] and [`origin_listing`] are the texts of the two listing programs. Whoever asks more
-//! than once about a file goes through [`Accepted`] and [`Solved`].
+//! [`analyse`], [`write()`] and [`check`] are the three calls over lent buffers, [`listing`] is the
+//! text of the listing program. Whoever asks more than once about a file goes through [`Accepted`]
+//! and [`Solved`].
 
 #![forbid(unsafe_code)]
 
@@ -21,8 +20,7 @@ pub use file::{
     field, read, Atom, Clause, Condition, Named, Production, Query, Rules, Term, MOST, MOST_BYTES,
     MOST_CONTENT,
 };
-pub use listing::{listing, origin_listing};
-pub use model::NO_CLAUSE;
+pub use listing::listing;
 
 /// A refusal of a file or a sheet: its number and its place.
 #[derive(Clone, Copy, Debug, PartialEq, Eq)]
@@ -72,14 +70,6 @@ pub struct Buffers<'a> {
     pub verdicts: &'a mut [u8],
 }
 
-/// The two buffers that a trace lends besides.
-pub struct OriginBuffers<'a> {
-    /// A byte for each domain atom, predicate after predicate.
-    pub clauses: &'a mut [u8],
-    /// A place for each domain atom, predicate after predicate.
-    pub rounds: &'a mut [u32],
-}
-
 /// How long the buffers of a file have to be.
 #[derive(Clone, Copy, Debug, Default, PartialEq, Eq)]
 pub struct Needs {
@@ -87,7 +77,7 @@ pub struct Needs {
     pub states: usize,
     /// The table cells.
     pub tables: usize,
-    /// The domain atoms; clauses and rounds need as many.
+    /// The domain atoms.
     pub marks: usize,
     /// The queries.
     pub verdicts: usize,
@@ -121,14 +111,6 @@ pub struct Solved {
 pub fn analyse(file: &[u8], buffers: Buffers) -> Answer {
     match Accepted::of(file) {
         Ok(accepted) => accepted.solve().analyse(buffers),
-        Err(refusal) => refusal.into(),
-    }
-}
-
-/// Analyses a file into the lent buffers, with the origin of each atom.
-pub fn trace(file: &[u8], buffers: Buffers, origins: OriginBuffers) -> Answer {
-    match Accepted::of(file) {
-        Ok(accepted) => accepted.solve().trace(buffers, origins),
         Err(refusal) => refusal.into(),
     }
 }
@@ -241,21 +223,6 @@ impl Solved {
             rounds: self.rounds,
             ..Answer::default()
         }
-    }
-
-    /// Fills the buffers, those of the origins too, or hands back 9.
-    pub fn trace(&self, buffers: Buffers, origins: OriginBuffers) -> Answer {
-        let needed = self.accepted.needs().marks;
-        if origins.clauses.len() < needed || origins.rounds.len() < needed {
-            return SHORT.into();
-        }
-        let answer = self.analyse(buffers);
-        if answer.number == 0 {
-            let (clauses, rounds) = self.accepted.origins();
-            origins.clauses[..needed].copy_from_slice(&clauses);
-            origins.rounds[..needed].copy_from_slice(&rounds);
-        }
-        answer
     }
 
     /// Fills the buffers and writes the sheet, or hands back 9 or 14.

@@ -1,51 +1,12 @@
-//! The texts of the two listing programs.
+//! The text of the listing program.
 
-use crate::{cells, row, Accepted, Refusal, Solved, SHORT};
-
-/// The most domain atoms that the listing of origins has places for.
-const MOST_ORIGINS: usize = 16_384;
+use crate::{cells, row, Accepted, Refusal, Solved};
 
 /// The listing of a file, or the line of its refusal.
 pub fn listing(file: &[u8]) -> String {
     match Accepted::of(file) {
         Ok(accepted) => accepted.solve().listing(),
-        Err(refusal) => refused(refusal),
-    }
-}
-
-/// The listing of the origins of a file's atoms, or the line of its refusal.
-pub fn origin_listing(file: &[u8]) -> String {
-    match Accepted::of(file) {
-        Ok(accepted) if accepted.needs().marks > MOST_ORIGINS => refused(SHORT),
-        Ok(accepted) => accepted.origin_listing(),
-        Err(refusal) => refused(refusal),
-    }
-}
-
-fn refused(Refusal { number, place }: Refusal) -> String {
-    format!("refused {number} at {place}\n")
-}
-
-impl Accepted {
-    /// The listing of the origins of an accepted file's atoms.
-    pub fn origin_listing(&self) -> String {
-        let (clauses, rounds) = self.origins();
-        (self.atom_texts().zip(clauses).zip(rounds))
-            .filter(|&(_, round)| round > 0)
-            .map(|((atom, clause), round)| format!("{atom} clause {clause} round {round}\n"))
-            .collect()
-    }
-
-    /// The name and the states of each domain atom, by rising predicate and cell.
-    fn atom_texts(&self) -> impl Iterator<Item = String> + '_ {
-        let m = self.automaton.states.len();
-        self.rules.predicates.iter().flat_map(move |predicate| {
-            (0..cells(m, predicate.arity)).map(move |cell| {
-                let row = row(m, predicate.arity, cell);
-                let row = row.iter().map(|state| format!(" {state}"));
-                text(&predicate.name) + &row.collect::<String>()
-            })
-        })
+        Err(Refusal { number, place }) => format!("refused {number} at {place}\n"),
     }
 }
 
@@ -67,8 +28,16 @@ impl Solved {
             lines.push(format!("{number} {names}"));
         }
         lines.push(format!("model {} rounds {}", self.atoms(), self.rounds));
-        let atoms = self.accepted.atom_texts().zip(&self.model);
-        lines.extend(atoms.filter(|&(_, &mark)| mark == 1).map(|(atom, _)| atom));
+        let mut marks = self.model.iter();
+        for predicate in &rules.predicates {
+            for cell in 0..cells(states.len(), predicate.arity) {
+                if marks.next() == Some(&1) {
+                    let row = row(states.len(), predicate.arity, cell);
+                    let row = row.iter().map(|state| format!(" {state}"));
+                    lines.push(text(&predicate.name) + &row.collect::<String>());
+                }
+            }
+        }
         lines.push(format!("queries {}", rules.queries.len()));
         for (number, &verdict) in self.verdicts.iter().enumerate() {
             let verdict = ["CLEAR", "OPEN"][usize::from(verdict)];

@@ -1,7 +1,6 @@
-//! Safe calls of the proved analyser of rule files: [`analyse`] a file, [`trace`] each atom of its
-//! model to the clause that brought it, write the file's certificate ([`write_sheet`]), check
-//! anybody's certificate ([`check_sheet`]). The `_into` forms take the caller's buffers, and then
-//! nothing is allocated.
+//! Safe calls of the proved analyser of rule files: [`analyse`] a file, write its certificate
+//! ([`write_sheet`]), check anybody's certificate ([`check_sheet`]). The `_into` forms take the
+//! caller's buffers, and then nothing is allocated.
 //!
 //! Give a call 256 kB of stack: what it takes is less, but was measured and is not proved.
 
@@ -9,7 +8,7 @@ mod needs;
 pub mod raw;
 
 pub use needs::{domain_atoms, table_cells};
-pub use raw::{Buffers, OriginBuffers};
+pub use raw::Buffers;
 
 use raw::Answer;
 use std::fmt;
@@ -24,9 +23,6 @@ pub const MOST_DOMAIN_ATOMS: usize = 65_536;
 pub const MOST_QUERIES: usize = 32;
 /// The most bytes of a written sheet: five for a state, seven for an atom of three states.
 pub const MOST_SHEET_BYTES: usize = 5 * MOST_STATES + 7 * MOST_DOMAIN_ATOMS;
-
-/// Stands among the clauses for a domain atom outside the model.
-pub const NO_CLAUSE: u8 = 255;
 
 /// Why a file or a sheet was refused, or a buffer too short.
 #[derive(Clone, Copy, Debug, PartialEq, Eq)]
@@ -94,35 +90,6 @@ pub struct Analysis {
     pub rounds: usize,
 }
 
-/// Where an atom of the model comes from. Some instance of the clause has the atom as its head, and
-/// body atoms that all have an earlier round.
-#[derive(Clone, Copy, Debug, PartialEq, Eq)]
-pub struct Origin {
-    /// The lowest clause, counted from 0, that brings the atom in its round from the stage before.
-    pub clause: u8,
-    /// The least stage that holds the atom, 1 for a fact.
-    pub round: u32,
-}
-
-/// What a trace found.
-#[derive(Clone, Debug, PartialEq, Eq)]
-pub struct Trace {
-    /// What an analysis finds.
-    pub analysis: Analysis,
-    /// The clause of each domain atom, in the order of the marks; [`NO_CLAUSE`] outside the model.
-    pub clauses: Vec<u8>,
-    /// The round of each domain atom, in the order of the marks; 0 outside the model.
-    pub rounds: Vec<u32>,
-}
-
-impl Trace {
-    /// The origin of the domain atom at this place of the marks; `None` if it is not in the model.
-    pub fn origin(&self, mark: usize) -> Option<Origin> {
-        let (&clause, &round) = (self.clauses.get(mark)?, self.rounds.get(mark)?);
-        (clause != NO_CLAUSE).then_some(Origin { clause, round })
-    }
-}
-
 /// The counts of an analysis into the caller's buffers.
 #[derive(Clone, Copy, Debug, PartialEq, Eq)]
 pub struct Counts {
@@ -145,33 +112,6 @@ pub fn analyse(file: &[u8]) -> Result<Analysis, Error> {
 /// needed ones keep their values.
 pub fn analyse_into(file: &[u8], buffers: Buffers) -> Result<Counts, Error> {
     counts(raw::analyse(file, buffers))
-}
-
-/// Analyses a file, with the origin of each atom of its model.
-pub fn trace(file: &[u8]) -> Result<Trace, Error> {
-    let mut largest = Largest::new();
-    // A refused file may declare more than any accepted one.
-    let most = domain_atoms(file, MOST_STATES).min(MOST_DOMAIN_ATOMS);
-    let (mut clauses, mut rounds) = (vec![0; most], vec![0; most]);
-    let origins = OriginBuffers {
-        clauses: &mut clauses,
-        rounds: &mut rounds,
-    };
-    let counts = trace_into(file, largest.lend(), origins)?;
-    let analysis = largest.keep(file, counts);
-    clauses.truncate(analysis.marks.len());
-    rounds.truncate(analysis.marks.len());
-    Ok(Trace {
-        analysis,
-        clauses,
-        rounds,
-    })
-}
-
-/// Analyses a file, with the origin of each atom of its model, into the caller's buffers. They are
-/// untouched with an error; bytes past the needed ones keep their values.
-pub fn trace_into(file: &[u8], buffers: Buffers, origins: OriginBuffers) -> Result<Counts, Error> {
-    counts(raw::trace(file, buffers, origins))
 }
 
 /// Analyses a file and writes its sheet.

@@ -1,4 +1,4 @@
-//! The four exported functions, each as one safe call that hands back all that the library hands
+//! The three exported functions, each as one safe call that hands back all that the library hands
 //! back. The rest of the crate stands on these.
 
 /// The four buffers that an analysis lends.
@@ -11,14 +11,6 @@ pub struct Buffers<'a> {
     pub marks: &'a mut [u8],
     /// A byte for each query.
     pub verdicts: &'a mut [u8],
-}
-
-/// The two buffers that a trace lends besides.
-pub struct OriginBuffers<'a> {
-    /// A byte for each domain atom.
-    pub clauses: &'a mut [u8],
-    /// A place for each domain atom.
-    pub rounds: &'a mut [u32],
 }
 
 /// What a call hands back besides the buffers; a count that a call does not hand back is 0.
@@ -53,27 +45,6 @@ extern "C" {
         marks_len: usize,
         verdicts: *mut u8,
         verdicts_len: usize,
-        place: *mut usize,
-        state_count: *mut usize,
-        atom_count: *mut usize,
-        round_count: *mut usize,
-    ) -> usize;
-
-    fn rules_trace(
-        file: *const u8,
-        file_len: usize,
-        states: *mut u16,
-        states_len: usize,
-        tables: *mut u8,
-        tables_len: usize,
-        marks: *mut u8,
-        marks_len: usize,
-        verdicts: *mut u8,
-        verdicts_len: usize,
-        clauses: *mut u8,
-        clauses_len: usize,
-        rounds: *mut u32,
-        rounds_len: usize,
         place: *mut usize,
         state_count: *mut usize,
         atom_count: *mut usize,
@@ -143,49 +114,6 @@ pub fn analyse(file: &[u8], buffers: Buffers) -> Answer {
             marks.len(),
             verdicts.as_mut_ptr(),
             verdicts.len(),
-            &mut answer.place,
-            &mut answer.states,
-            &mut answer.atoms,
-            &mut answer.rounds,
-        )
-    };
-    answer
-}
-
-/// Analyses a file into the lent buffers, with the origin of each atom.
-pub fn trace(file: &[u8], buffers: Buffers, origins: OriginBuffers) -> Answer {
-    let Buffers {
-        states,
-        tables,
-        marks,
-        verdicts,
-    } = buffers;
-    let OriginBuffers { clauses, rounds } = origins;
-    let mut answer = Answer {
-        number: UNWRITTEN,
-        place: UNWRITTEN,
-        states: UNWRITTEN,
-        atoms: UNWRITTEN,
-        rounds: UNWRITTEN,
-        bytes: 0,
-    };
-    // SAFETY: as in `analyse`.
-    answer.number = unsafe {
-        rules_trace(
-            file.as_ptr(),
-            file.len(),
-            states.as_mut_ptr(),
-            states.len(),
-            tables.as_mut_ptr(),
-            tables.len(),
-            marks.as_mut_ptr(),
-            marks.len(),
-            verdicts.as_mut_ptr(),
-            verdicts.len(),
-            clauses.as_mut_ptr(),
-            clauses.len(),
-            rounds.as_mut_ptr(),
-            rounds.len(),
             &mut answer.place,
             &mut answer.states,
             &mut answer.atoms,

@@ -6,11 +6,11 @@ use Rattle.analysis_output.proofs.write_small.Tie as tie
 
 write-both-requires : tie.Need-write-both-requires
 write-both-requires c κs =
-    let x = c.before.before.before.before.before.before.before.before.before.before.before.before.before.before.before.before.before in
+    let x = c.before.before.before.before.before.before.before.before.before.before.before.before.before.before.before in
     let p = x.requires in
-    ((p.0, p.1, p.2, p.3), (lent_empty x.args.known x.args.preds.now 16 5 16384 1024 8670 4335 p.4 p.5 (lit≤ tt, lit≤ tt, lit≤ tt, lit≤ tt), p.6))
+    ((p.0, p.1, p.2, p.3), lent_empty x.args.known x.args.preds.now 16 5 16384 1024 8670 4335 p.4 p.5 (lit≤ tt, lit≤ tt, lit≤ tt, lit≤ tt))
 
 pub write-small-spec : {M : Type 1} → statement M
 write-small-spec =
     tie.close (tie.spec (λ c. search needs) (λ c. search needs) (λ c. search needs) (λ c. search needs) write-both-requires (λ c. search needs)
-    (λ c. search needs) (λ c. search needs) (λ c. search needs))
+    (λ c. search needs) (λ c. search needs))

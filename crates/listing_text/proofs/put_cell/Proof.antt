@@ -3,7 +3,7 @@ use Rattle.meaning.proofs.Prelude.{ℕ, ◌≤◌, ◌-◌, subst, List, length,
 use Rattle.byte_runs.specs.Pasted.{Put}
 use Rattle.listing_text.specs.Lines.{named_text}
 use Rattle.parser.proofs.Limits.{predicates-few}
-use Rattle.listing_text.proofs.AtomAt.{row-asked, content-some, row_fits, line_is, line_short}
+use Rattle.listing_text.proofs.AtomAt.{row-asked, content-some, row_fits, line-is, line-short}
 use Rattle.listing_text.proofs.put_cell.Statement.{statement}
 use Rattle.listing_text.proofs.put_cell.Tie as tie
 
@@ -43,14 +43,14 @@ slice-aggregate-put-atom c = omega (arith, length-take c.before.before.before.wi
 
 -- the line is short
 short : (c : tie.After-row)
-    → length (named_text (take (length c.before.before.before.before.nth-content.result.now - 1) (drop 1 c.before.before.before.before.nth-content.result.now)) (take c.before.before.before.wide.result c.before.before.before.before.before.row-at.result)) ≤ 32
+    → length (named_text (take (length c.before.before.before.before.nth-content.result.now - 1) (drop 1 c.before.before.before.before.nth-content.result.now)) (take c.before.before.before.wide.result c.before.before.before.before.before.row-at.result)) ≤ 128
 short c =
     let x = c.before.before.before.before.before.before.before.before.before.before in
     let a = x.args in
     let n = c.before.before.before.wide in
     let row = c.before.before.before.before.before.row-at in
     let content = c.before.before.before.before.nth-content in
-    line_short a.file.now x.requires.0.0 a.known x.requires.0.1 a.m a.p a.cell x.requires.0.2 x.requires.1.0 x.requires.1.1
+    line-short a.file.now x.requires.0.0 a.known x.requires.0.1 a.m a.p a.cell x.requires.0.2 x.requires.1.0 x.requires.1.1
     row.result content.result.now n.result row.ensures content.ensures n.ensures.0
 
 returns : tie.Need-returns
@@ -62,7 +62,7 @@ returns c =
     let content = c.before.before.before.before.before.before.before.nth-content in
     let put = c.before.before.put-atom in (
       subst (λ (l : List ℕ). Put a.out.now a.at l put.new.0 put.result)
-          (line_is a.file.now x.requires.0.0 a.known x.requires.0.1 a.m a.p a.cell x.requires.0.2 x.requires.1.0 x.requires.1.1
+          (line-is a.file.now x.requires.0.0 a.known x.requires.0.1 a.m a.p a.cell x.requires.0.2 x.requires.1.0 x.requires.1.1
           row.result content.result.now n.result row.ensures content.ensures n.ensures.0)
           put.ensures,
       omega (arith, put.ensures.1, short c.before.before.before),

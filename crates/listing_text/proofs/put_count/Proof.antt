@@ -1,8 +1,7 @@
 -- `listing_text::put_count` meets its contract. Assumes nothing.
 use Rattle.meaning.proofs.Prelude.{[], ◌∷◌, arith, needs}
 use Rattle.byte_runs.proofs.Putting.{put_first, put_room, put_then}
-use Rattle.text.specs.Decimal.{number_after}
-use Rattle.listing_text.specs.Lines.{line_end, count_line}
+use Rattle.listing_text.specs.Lines.{line_end, number_after, count_line}
 use Rattle.listing_text.proofs.put_count.Statement.{statement}
 use Rattle.listing_text.proofs.put_count.Tie as tie
 

@@ -1,7 +1,6 @@
 -- `listing_text::put_counts` meets its contract. Assumes nothing.
 use Rattle.byte_runs.proofs.Putting.{put_first, put_room, put_then}
-use Rattle.text.specs.Decimal.{number_after}
-use Rattle.listing_text.specs.Lines.{count_line, counts_line}
+use Rattle.listing_text.specs.Lines.{number_after, count_line, counts_line}
 use borrow.Author.Rules.{rules}
 use Rattle.listing_text.proofs.put_counts.Statement.{statement}
 use Rattle.listing_text.proofs.put_counts.Tie as tie

@@ -2,7 +2,7 @@
 use Rattle.meaning.proofs.Prelude.{cond, eqb, needs}
 use Rattle.text.specs.Decimal.{decimal}
 use Rattle.listing_text.specs.Lines.{open_word, clear_word, query_text}
-use Rattle.listing_text.proofs.Putting.{line_first, line_second, line_last, line_put}
+use Rattle.listing_text.proofs.Putting.{line_first, line_second, line-last, line_put}
 use Rattle.listing_text.proofs.put_query.Statement.{statement}
 use Rattle.listing_text.proofs.put_query.Tie as tie
 
@@ -25,7 +25,7 @@ unfolding query_text
 put-byte-requires c κs =
     let x = c.before.before.before.before.before.before.before.before.before.before in
     let a = x.args in
-    line_last a.out.now a.at (decimal a.i) (cond (eqb a.verdict 0) clear_word open_word) x.requires c.before.before.before.before.before.before.before.put-decimal.ensures c.before.before.before.put-verdict.ensures
+    line-last a.out.now a.at (decimal a.i) (cond (eqb a.verdict 0) clear_word open_word) x.requires c.before.before.before.before.before.before.before.put-decimal.ensures c.before.before.before.put-verdict.ensures
 
 returns : tie.Need-returns
 unfolding query_text

@@ -1,8 +1,7 @@
 -- `listing_text::put_row` meets its contract. The invariant: the states from `i` on are left to be put. The measure is how many they are. Assumes nothing.
 use Rattle.meaning.proofs.Prelude.{◌+◌, ◌≤◌, ◌-◌, [], ◌∷◌, length, drop, arith, needs}
 use Rattle.byte_runs.proofs.Putting.{Left, left_start, left_room, left_next, left_end}
-use Rattle.text.specs.Decimal.{number_after}
-use Rattle.listing_text.specs.Lines.{space, row_text}
+use Rattle.listing_text.specs.Lines.{space, number_after, row_text}
 use Rattle.listing_text.proofs.Texts.{row_next, row-end}
 use Rattle.listing_text.proofs.put_row.Statement.{statement}
 use Rattle.listing_text.proofs.put_row.Tie as tie

@@ -2,7 +2,7 @@
 use Rattle.meaning.specs.Files.{rules_of}
 use Rattle.text.specs.Decimal.{decimal}
 use Rattle.listing_text.specs.Lines.{held_names, or_dash, state_text}
-use Rattle.listing_text.proofs.Putting.{line_first, line_second, line_last, line_put}
+use Rattle.listing_text.proofs.Putting.{line_first, line_second, line-last, line_put}
 use borrow.Author.Rules.{rules}
 use Rattle.listing_text.proofs.put_state.Statement.{statement}
 use Rattle.listing_text.proofs.put_state.Tie as tie
@@ -26,7 +26,7 @@ unfolding state_text
 put-byte-requires c κs =
     let x = c.before.before.before.before.before.before.before.before.before.before.before in
     let a = x.args in
-    line_last a.out.now a.at (decimal a.i) (or_dash (held_names a.state 0 (rules_of a.file.now).types)) x.requires.1 c.before.before.before.before.before.before.before.put-decimal.ensures c.before.before.before.put-held.ensures
+    line-last a.out.now a.at (decimal a.i) (or_dash (held_names a.state 0 (rules_of a.file.now).types)) x.requires.1 c.before.before.before.before.before.before.before.put-decimal.ensures c.before.before.before.put-held.ensures
 
 returns : tie.Need-returns
 unfolding state_text

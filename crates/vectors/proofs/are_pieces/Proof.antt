@@ -3,8 +3,7 @@
 use Rattle.meaning.proofs.Prelude.{ℕ, ◌+◌, ◌≤◌, ◌-◌, ◌≡◌, refl, sym, ◌∙◌, length, take, length-take-le, arith, not-false, eqb-true, needs}
 use Rattle.meaning.specs.Lists.{joined, table}
 use Rattle.listing_text.specs.Listing.{pieces, piece}
-use Rattle.folders.proofs.Standing.{piece_stands, pieces_all}
-use Rattle.listing_text.proofs.Pieces.{listing-pieces}
+use Rattle.vectors.proofs.Standing.{piece_stands, pieces_all}
 use Rattle.vectors.proofs.are_pieces.Statement.{statement}
 use Rattle.vectors.proofs.are_pieces.Tie as tie
 
@@ -40,7 +39,7 @@ stood : (c : tie.Else1 invariant-loop decreases-loop) → (c.before.before.befor
 stood c =
     let x = c.before.before.before.before.before.before.before.before.before.before.before.before.before.before.before.before.args in
     let loop = c.before.before.before.before.before.before.before.before.loop in
-    piece_stands (piece x.file.now) x.expected.now loop.from loop.k loop.invariant.4 loop.out c.before.before.before.before.before.put-piece.ensures.0 (sym c.before.stands_at.ensures ∙ not-false c.before.stands_at.result c.if1.false)
+    piece_stands x.file.now x.expected.now loop.from loop.k loop.invariant.4 loop.out c.before.before.before.before.before.put-piece.ensures.0 (sym c.before.stands_at.ensures ∙ not-false c.before.stands_at.result c.if1.false)
 
 slice-aggregate-stands-at : tie.Need-slice-aggregate-stands-at invariant-loop decreases-loop
 slice-aggregate-stands-at c = sym (length-take-le c.before.before.before.put-piece.result c.before.before.before.put-piece.new.0 (fits c.before.before.before))
@@ -61,9 +60,7 @@ returns-2 : tie.Need-returns-2 invariant-loop decreases-loop
 returns-2 c =
     let x = c.before.before.before.before.before.before.before.before.before in
     let loop = c.before.loop in
-    λ e.
-    pieces_all (piece x.args.file.now) x.args.expected.now loop.from loop.k loop.invariant.4 (pieces x.args.file.now) (omega (arith, loop.invariant.2, loop.invariant.3, c.loop-test.false)) (eqb-true loop.from (length x.args.expected.now) e)
-    ∙ listing-pieces x.args.file.now x.requires.0.answer
+    λ e. pieces_all x.args.file.now x.args.expected.now loop.from loop.k loop.invariant.4 x.requires.0.answer (omega (arith, loop.invariant.2, loop.invariant.3, c.loop-test.false)) (eqb-true loop.from (length x.args.expected.now) e)
 
 pub are-pieces-spec : {M : Type 1} → statement M
 are-pieces-spec =

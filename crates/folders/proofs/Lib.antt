@@ -1,4 +1,0 @@
-pub mod Parts
-pub mod Sizes
-pub mod Standing
-pub mod Outcomes
