@@ -1,4 +1,7 @@
 // A rule file accepted, or refused with 1 to 8: read, and its states found. What every public call starts with.
+
+#![tactic(auto)]
+
 ghost use Rattle.std.specs.Prelude.{◌≡◌, [], ℕ, ◌≤◌, ltb, length};
 ghost use Rattle.meaning.specs.Limits.{most_states};
 ghost use Rattle.meaning.specs.Refusals.{accepted, refuse_if};

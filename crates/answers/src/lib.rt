@@ -1,4 +1,7 @@
 // What every public call answers: a number and a place.
+
+#![tactic(auto)]
+
 ghost use Rattle.std.specs.Prelude.{◌≡◌};
 ghost use Rattle.meaning.specs.Refusals.{accepted, refused};
 ghost use Rattle.answers.specs.Answered.{answered};

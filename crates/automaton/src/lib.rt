@@ -1,4 +1,7 @@
 // Sets of types, and the sets that the symbols give over all rows of some sets.
+
+#![tactic(auto)]
+
 ghost use Rattle.std.specs.Prelude.{ℕ, ◌≤◌, ◌<◌, ◌≡◌, ◌++◌, map, length, drop, replicate};
 ghost use Rattle.std.specs.Int.Bits.{bit_or};
 ghost use Rattle.meaning.specs.Types.{has};

@@ -1,4 +1,7 @@
 // Whether lent buffers are long enough, from the arities, the number of states and the buffers' lengths.
+
+#![tactic(auto)]
+
 ghost use Rattle.std.specs.Prelude.{◌≤◌, ◌≡◌, ◌&&◌, leb, length};
 ghost use Rattle.meaning.specs.Lists.{All};
 ghost use Rattle.meaning.specs.Cells.{cells};

@@ -1,4 +1,7 @@
 // Bytes and small numbers: a number of one width as another, tests over slices, slices filled and copied.
+
+#![tactic(auto)]
+
 ghost use Rattle.std.specs.Prelude.{◌+◌, ◌≤◌, ◌<◌, ◌≡◌, [], ◌∷◌, eqb, ltb, length, replicate};
 ghost use Rattle.meaning.specs.Lists.{same, any_of, all_of};
 ghost use Rattle.meaning.specs.Calls.{written};

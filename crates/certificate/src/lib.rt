@@ -1,4 +1,7 @@
 // The certificate (01: sheet) of a rule file, analysed and written.
+
+#![tactic(auto)]
+
 ghost use Rattle.std.specs.Prelude.{◌≡◌};
 ghost use Rattle.meaning.specs.Refusals.{accepted};
 ghost use Rattle.meaning.specs.Files.{file_answer};

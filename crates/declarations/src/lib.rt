@@ -1,4 +1,7 @@
 // The refusals of one field, by what is known of the fields before it: 3, 6, 4 and 5, in this order.
+
+#![tactic(auto)]
+
 ghost use Rattle.std.specs.Prelude.{◌+◌, ◌≤◌, ◌≡◌, List, map, length, take, drop};
 ghost use Rattle.meaning.specs.Lists.{any_of, same};
 ghost use Rattle.meaning.specs.Fields.{Field, whole};

@@ -1,4 +1,7 @@
 // The three public calls for C and Rust: functions on numbers and slices. Each answers the number; the place and the counts come through references.
+
+#![tactic(auto)]
+
 ghost use Rattle.std.specs.Prelude.{◌≡◌};
 ghost use Rattle.meaning.specs.Calls.{analysed, checked, WrittenInOrder};
 ghost use Rattle.exports.specs.Numbers.{analysis, writing, check};

@@ -1,4 +1,7 @@
 // The fields of rule files and sheets: a tag, a length of two bytes, high byte first, and that many content bytes.
+
+#![tactic(auto)]
+
 ghost use Rattle.std.specs.Prelude.{◌≡◌, ◌+◌, ◌≤◌, T, length, take, drop};
 ghost use Rattle.meaning.specs.Fields.{front_of};
 ghost use Rattle.fields.specs.Found.{found_in, is_whole, content_in, next_in, nth_in};

@@ -1,4 +1,7 @@
 // What the programs that play a folder of vectors share: the paths of its numbered files, files read into lent buffers, and what is printed.
+
+#![tactic(auto)]
+
 ghost use Rattle.std.specs.Prelude.{◌≤◌, ◌<◌, ◌≡◌, length};
 ghost use Rattle.io.specs.Counts.{IsPrefixLen};
 ghost use Rattle.folders.specs.Paths.{numbered_path};

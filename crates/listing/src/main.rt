@@ -1,4 +1,7 @@
 // Reads a rule file on standard input and prints its listing: its states, model and verdicts, or its refusal.
+
+#![tactic(auto)]
+
 ghost use Rattle.std.specs.Prelude.{◌+◌, ◌≤◌, ◌≡◌, length};
 ghost use Rattle.meaning.specs.Calls.{rounds_of, atoms_of};
 ghost use Rattle.declarations.specs.Known.{Knows, fields_read};

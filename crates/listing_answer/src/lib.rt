@@ -1,4 +1,7 @@
 // A file analysed for its listing, with the line that its listing has for a refusal.
+
+#![tactic(auto)]
+
 ghost use Rattle.std.specs.Prelude.{◌≤◌, length};
 ghost use Rattle.listing_answer.specs.Answered.{AnsweredIn};
 

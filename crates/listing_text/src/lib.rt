@@ -1,4 +1,7 @@
 // The lines of a listing, put piece by piece into a buffer. Each function that puts answers the position past what it put.
+
+#![tactic(auto)]
+
 ghost use Rattle.std.specs.Prelude.{ℕ, ◌+◌, ◌^◌, ◌≤◌, ◌<◌, ◌≡◌, cond, List, ◌∷◌, eqb, length, get_or};
 ghost use Rattle.meaning.specs.Lists.{All};
 ghost use Rattle.meaning.specs.Cells.{row_of, start, cells};

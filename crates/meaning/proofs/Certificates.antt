@@ -355,9 +355,12 @@ module _ {A : Type 0} where
   at_mem (y ∷ l) zero x e = mem_head (sym (some_injective y x e))
   at_mem (y ∷ l) (suc i) x e = mem_tail (at_mem l i x e)
 
+  member_at : (x : A) (l : List A) → Memᴰ x l → (i : ℕ) × (get_elem? l i ≡ some x)
+  member_at x l (mem_head e) = (0, ap some (sym e))
+  member_at x l (mem_tail {xs = ys} m) = let w = member_at x ys m in (suc w.0, w.1)
+
   mem-at : (l : List A) (x : A) → Memᴰ x l → (i : ℕ) × (get_elem? l i ≡ some x)
-  mem-at l x (mem_head e) = (0, ap some (sym e))
-  mem-at l x (mem_tail {xs = ys} m) = let w = mem-at ys x m in (suc w.0, w.1)
+  mem-at l x m = member_at x l m
 
 -- 13: the test finds the violations in the set of the atoms
 module _ (m : ℕ) (interpret : ℕ → List ℕ → ℕ) (atoms : List (List ℕ)) (S : AtomSet) (is : (p : ℕ) (row : List ℕ) → T (among atoms p row) ↔ S p row) where

@@ -1,7 +1,6 @@
 -- The theorems, and the laws they rest on.
 pub mod Definitions
 pub mod Prelude
-pub mod Walks
 pub mod Lists
 pub mod Setting
 pub mod Loops

@@ -108,9 +108,12 @@ module _ {A : Type 0} where
       (λ h. let w = any_find f xs h in (w.0, mem_tail w.1, w.2))
       (either (f x) (any_of f xs) t)
 
+  member_gives : (f : A → Bool) (x : A) (l : List A) → Memᴰ x l → T (f x) → T (any_of f l)
+  member_gives f x l (mem_head {x = y} {xs = ys} e) h = left_of (f y) (any_of f ys) (subst (λ (z : A). T (f z)) e h)
+  member_gives f x l (mem_tail {x = y} {xs = ys} m) h = right_of (f y) (any_of f ys) (member_gives f x ys m h)
+
   pub any_give : (f : A → Bool) (l : List A) (x : A) → Memᴰ x l → T (f x) → T (any_of f l)
-  any_give f l x (mem_head {x = y} {xs = ys} e) h = left_of (f y) (any_of f ys) (subst (λ (z : A). T (f z)) e h)
-  any_give f l x (mem_tail {x = y} {xs = ys} m) h = right_of (f y) (any_of f ys) (any_give f ys x m h)
+  any_give f l x m h = member_gives f x l m h
 
   pub any_append : (f : A → Bool) (xs ys : List A) → any_of f (xs ++ ys) ≡ (any_of f xs || any_of f ys)
   any_append f [] ys = refl
@@ -121,9 +124,12 @@ module _ {A : Type 0} where
       go false e = e
 
   -- every member
+  member_passes : (f : A → Bool) (x : A) (l : List A) → Memᴰ x l → T (all_of f l) → T (f x)
+  member_passes f x l (mem_head {x = y} {xs = ys} e) t = subst (λ (z : A). T (f z)) (sym e) (both (f y) (all_of f ys) t).0
+  member_passes f x l (mem_tail {x = y} {xs = ys} m) t = member_passes f x ys m (both (f y) (all_of f ys) t).1
+
   pub all_find : (f : A → Bool) (l : List A) → T (all_of f l) → (x : A) → Memᴰ x l → T (f x)
-  all_find f l t x (mem_head {x = y} {xs = ys} e) = subst (λ (z : A). T (f z)) (sym e) (both (f y) (all_of f ys) t).0
-  all_find f l t x (mem_tail {x = y} {xs = ys} m) = all_find f ys (both (f y) (all_of f ys) t).1 x m
+  all_find f l t x m = member_passes f x l m t
 
   pub all_give : (f : A → Bool) (l : List A) → ((x : A) → Memᴰ x l → T (f x)) → T (all_of f l)
   all_give f [] h = tt
@@ -142,9 +148,12 @@ module _ {A : Type 0} where
   All-map [] f h = tt
   All-map (x ∷ xs) f h = (f x h.0, All-map xs f h.1)
 
+  member_has : (P : A → Type 0) (x : A) (l : List A) → Memᴰ x l → All P l → P x
+  member_has P x l (mem_head e) h = subst P (sym e) h.0
+  member_has P x l (mem_tail {xs = ys} m) h = member_has P x ys m h.1
+
   pub All-find : (P : A → Type 0) (l : List A) → All P l → (x : A) → Memᴰ x l → P x
-  All-find P l h x (mem_head e) = subst P (sym e) h.0
-  All-find P l h x (mem_tail {xs = ys} m) = All-find P ys h.1 x m
+  All-find P l h x m = member_has P x l m h
 
   pub All-give : {P : A → Type 0} (l : List A) → ((x : A) → Memᴰ x l → P x) → All P l
   All-give [] h = tt
@@ -169,9 +178,12 @@ module _ {A : Type 0} where
   mem-get_or (x ∷ xs) d zero lt = mem_head refl
   mem-get_or (x ∷ xs) d (suc i) lt = mem_tail (mem-get_or xs d i (le_of_suc-le-suc lt))
 
+  member_place : (d x : A) (l : List A) → Memᴰ x l → (i : ℕ) × (i < length l) × (get_or l i d ≡ x)
+  member_place d x l (mem_head e) = (0, zero-lt-suc _, sym e)
+  member_place d x l (mem_tail {xs = ys} m) = let w = member_place d x ys m in (suc w.0, suc-le-suc w.1, w.2)
+
   pub mem-place : (l : List A) (d x : A) → Memᴰ x l → (i : ℕ) × (i < length l) × (get_or l i d ≡ x)
-  mem-place l d x (mem_head e) = (0, zero-lt-suc _, sym e)
-  mem-place l d x (mem_tail {xs = ys} m) = let w = mem-place ys d x m in (suc w.0, suc-le-suc w.1, w.2)
+  mem-place l d x m = member_place d x l m
 
   -- tables
   pub length-table : (n : ℕ) (f : ℕ → A) → length (table n f) ≡ n
@@ -206,10 +218,13 @@ module _ {A : Type 0} where
   joined-append [] ys = refl
   joined-append (x ∷ xs) ys = ap (λ (l : List A). x ++ l) (joined-append xs ys) ∙ sym (append_assoc x (joined xs) (joined ys))
 
-  pub mem-joined : (ls : List (List A)) (l : List A) (x : A) → Memᴰ l ls → Memᴰ x l → Memᴰ x (joined ls)
-  mem-joined ls l x (mem_head {x = k} {xs = ks} e) m =
+  member_joined : (x : A) (l : List A) (ls : List (List A)) → Memᴰ l ls → Memᴰ x l → Memᴰ x (joined ls)
+  member_joined x l ls (mem_head {x = k} {xs = ks} e) m =
       mem-append_left (joined ks) (subst (λ (z : List A). Memᴰ x z) e m)
-  mem-joined ls l x (mem_tail {x = k} {xs = ks} at) m = mem-append_right k (mem-joined ks l x at m)
+  member_joined x l ls (mem_tail {x = k} {xs = ks} at) m = mem-append_right k (member_joined x l ks at m)
+
+  pub mem-joined : (ls : List (List A)) (l : List A) (x : A) → Memᴰ l ls → Memᴰ x l → Memᴰ x (joined ls)
+  mem-joined ls l x at m = member_joined x l ls at m
 
   pub joined-mem : (ls : List (List A)) (x : A) → Memᴰ x (joined ls) → (l : List A) × Memᴰ l ls × Memᴰ x l
   joined-mem [] x m = absurd (mem_not-nil m)

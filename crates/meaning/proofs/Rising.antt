@@ -183,9 +183,12 @@ insert_longer s (x ∷ xs) =
     (λ _. ⊎_elim (λ e. inl (ap (λ (l : List ℕ). x ∷ l) e)) (λ e. inr (ap suc e)) (insert_longer s xs))
 
 -- the same for several numbers
+inserted : (l : List ℕ) (y : ℕ) (ss : List ℕ) → Memᴰ y ss → Memᴰ y (insert_all ss l)
+inserted l y ss (mem_head {x = s} {xs = ss'} e) = mem_cast e (insert_new s (insert_all ss' l))
+inserted l y ss (mem_tail {x = s} {xs = ss'} m) = insert_old s (insert_all ss' l) y (inserted l y ss' m)
+
 pub insert_all-new : (ss l : List ℕ) (y : ℕ) → Memᴰ y ss → Memᴰ y (insert_all ss l)
-insert_all-new ss l y (mem_head {x = s} {xs = ss'} e) = mem_cast e (insert_new s (insert_all ss' l))
-insert_all-new ss l y (mem_tail {x = s} {xs = ss'} m) = insert_old s (insert_all ss' l) y (insert_all-new ss' l y m)
+insert_all-new ss l y m = inserted l y ss m
 
 pub insert_all_old : (ss l : List ℕ) (y : ℕ) → Memᴰ y l → Memᴰ y (insert_all ss l)
 insert_all_old [] l y m = m

@@ -1,6 +1,8 @@
 // What a rule file, its states, model, verdicts and certificates are: definitions in specs/, theorems in proofs/. No code but the numbers of the formats, under
 // the names of their definitions (specs/Limits.antt, specs/Refusals.antt).
 
+#![tactic(auto)]
+
 pub const MOST_FILE_BYTES: usize = 32768;
 
 pub const MOST_CONTENT: usize = 250;

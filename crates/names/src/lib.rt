@@ -1,4 +1,7 @@
 // Names, symbols, predicates and productions: whether the content of a field is as laid out.
+
+#![tactic(auto)]
+
 ghost use Rattle.std.specs.Prelude.{◌≡◌};
 ghost use Rattle.meaning.specs.Contents.{name_byte, is_name, is_named, is_production};
 

@@ -1,4 +1,7 @@
 // A rule file read and judged: refusals 1 to 7, and what was read.
+
+#![tactic(auto)]
+
 ghost use Rattle.std.specs.Prelude.{ℕ, ◌+◌, ◌≤◌, ◌<◌, ◌≡◌, not, List, [], ◌∷◌, ◌++◌, T, length, get_or};
 ghost use Rattle.meaning.specs.Lists.{All};
 ghost use Rattle.meaning.specs.Fields.{Field, whole};

@@ -1,4 +1,7 @@
 // The answer to a sheet from the four searches: 0, or 10 to 13, each at the lowest place that it fits.
+
+#![tactic(auto)]
+
 ghost use Rattle.std.specs.Prelude.{◌≡◌, length, replicate};
 ghost use Rattle.meaning.specs.Cells.{cells};
 ghost use Rattle.meaning.specs.Certificates.{answer_of_sheet};

@@ -1,4 +1,7 @@
 // The atoms of a sheet put into the marks, or the first that is wrong (12).
+
+#![tactic(auto)]
+
 ghost use Rattle.std.specs.Prelude.{◌≡◌, cond, T, length, get_or, set, drop, replicate};
 ghost use Rattle.std.proofs.Math.Option.{none};
 ghost use Rattle.meaning.specs.Limits.{atom_tag};

@@ -1,4 +1,7 @@
 // A sheet checked for a rule file, whoever wrote it: 1 to 8 for the file, 9 if a buffer is too short, then 10 to 13, each at the lowest place that it fits.
+
+#![tactic(auto)]
+
 ghost use Rattle.std.specs.Prelude.{◌≤◌, ◌≡◌, length, replicate};
 ghost use Rattle.meaning.specs.Cells.{cells};
 ghost use Rattle.meaning.specs.Refusals.{accepted};

@@ -1,4 +1,7 @@
 // A sheet read field by field: the first field that is misplaced (10), and the first state that differs (11).
+
+#![tactic(auto)]
+
 ghost use Rattle.std.specs.Prelude.{◌+◌, max, ◌≡◌, length, get_or};
 ghost use Rattle.meaning.specs.Lists.{lowest};
 ghost use Rattle.meaning.specs.Fields.{fields, first_field, word};

@@ -1,5 +1,8 @@
 // A sheet read field by field: a struct that holds the sheet's bytes and a position in them, and thin functions over it. The work is done by `fields`,
 // over a plain slice and a position. And where a search of a sheet finds a fault.
+
+#![tactic(auto)]
+
 ghost use Rattle.std.specs.Prelude.{◌+◌, ◌≡◌, T, drop};
 ghost use Rattle.meaning.specs.Fields.{front_of};
 ghost use Rattle.fields.specs.Found.{found_in, is_whole, content_in, next_in};

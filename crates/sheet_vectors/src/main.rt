@@ -1,6 +1,9 @@
 // Plays the rule files of data/pass and data/made, each with what stands beside it, and compares: of pass the answer to a sheet and the tables, of
 // made the sheet that is written.
 // Prints a line for each difference, and the counts of each folder.
+
+#![tactic(auto)]
+
 ghost use Rattle.std.specs.Prelude.{◌+◌, ◌≤◌, ◌<◌, ◌≡◌, true, length, get_or};
 ghost use Rattle.meaning.specs.Fields.{word};
 ghost use Rattle.sheet_vectors.specs.Expected.{IsSheet};

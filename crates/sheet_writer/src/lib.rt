@@ -1,4 +1,7 @@
 // The bytes of a sheet: a field for each state, then one for each marked atom, by rising predicate and cell.
+
+#![tactic(auto)]
+
 ghost use Rattle.std.specs.Prelude.{◌+◌, ◌*◌, ◌^◌, ◌≤◌, ◌<◌, ◌≡◌, ◌∷◌, length};
 ghost use Rattle.meaning.specs.Lists.{All};
 ghost use Rattle.meaning.specs.Limits.{state_tag, atom_tag};

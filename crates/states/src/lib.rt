@@ -1,4 +1,7 @@
 // The states of a rule file, rising, or that there are more than 16; and the tables over them.
+
+#![tactic(auto)]
+
 ghost use Rattle.std.specs.Prelude.{ℕ, ◌+◌, ◌-◌, ◌≤◌, ◌<◌, ◌≡◌, ◌++◌, ltb, length, take, drop};
 ghost use Rattle.meaning.specs.Limits.{most_states};
 ghost use Rattle.meaning.specs.Types.{step, signature};

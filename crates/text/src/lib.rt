@@ -1,4 +1,7 @@
 // Numbers in decimal put into a buffer from a position on, and how many digits they have.
+
+#![tactic(auto)]
+
 ghost use Rattle.std.specs.Prelude.{◌+◌, ◌%◌, ◌≤◌, ◌<◌, ◌≡◌, length};
 ghost use Rattle.text.specs.Decimal.{digit, decimal};
 ghost use Rattle.byte_runs.specs.Pasted.{pasted};

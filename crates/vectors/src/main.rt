@@ -1,5 +1,8 @@
 // Plays the rule files of data/base and data/full, each with its listing beside it, and compares.
 // Prints a line for each difference, and the counts of each folder.
+
+#![tactic(auto)]
+
 ghost use Rattle.std.specs.Prelude.{◌+◌, ◌≤◌, ◌≡◌, true, not, ◌&&◌, eqb, length};
 ghost use Rattle.meaning.specs.Lists.{same};
 ghost use Rattle.meaning.specs.Calls.{rounds_of, atoms_of};
