@@ -1,5 +1,5 @@
 -- Values written one after the other to the front of a buffer; a part of it; what is written is there. Assumes nothing.
-use Rattle.meaning.proofs.Prelude.{ℕ, ◌+◌, ◌≤◌, ◌-◌, ◌<◌, zero, suc, ◌≡◌, refl, sym, ap, ◌∙◌, List, [], ◌∷◌, map, ◌++◌, length, length-append}
+use Rattle.meaning.proofs.Prelude.{ℕ, ◌+◌, ◌≤◌, ◌<◌, zero, suc, ◌≡◌, refl, sym, ap, ◌∙◌, List, [], ◌∷◌, map, ◌++◌, length, length-append}
 use Rattle.meaning.proofs.Prelude.{get_or, take, drop, set, length-take-le, drop-cons, take-suc, append_snoc, set_at, take_at}
 use Rattle.meaning.proofs.Prelude.{take-length, drop-append_seam, not-suc-le-zero, le_of_suc-le-suc, add-one, arith}
 use Rattle.meaning.specs.Calls.{written}
