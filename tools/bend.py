@@ -79,12 +79,13 @@ def bent_files(bend, crate):
 def check(crate, files):
     """`rt check` of a copy of the crate with some files changed: the exit status (None: none came), the errors as (file, declaration, message)."""
     with tempfile.TemporaryDirectory(prefix="bend-") as folder:
-        copy = Path(folder) / crate.name
+        copy = Path(folder) / "crates" / crate.name
         shutil.copytree(crate, copy)
+        (Path(folder) / "crates.txt").write_text("%s:\n" % crate.name)
         for file, text in files.items():
             (copy / file).write_text(text)
         try:
-            run = subprocess.run(["rt", "check", str(copy)], cwd=folder, stdout=subprocess.PIPE, stderr=subprocess.STDOUT, text=True, timeout=SECONDS)
+            run = subprocess.run(["rt", "check"], cwd=copy, stdout=subprocess.PIPE, stderr=subprocess.STDOUT, text=True, timeout=SECONDS)
         except subprocess.TimeoutExpired:
             return None, []
         return run.returncode, [found.groups() for found in map(ERROR.search, run.stdout.splitlines()) if found]
@@ -98,7 +99,7 @@ def judge(bend, status, errors):
     if status != 1 or not errors:
         return "HOLLOW", "%s  no verdict (rt check: %s)" % (name, status)
     file, declaration, message = errors[0]
-    if file.startswith("specs/") or "not in scope" in message:
+    if file.startswith("specs/") or "not in scope" in message or "can be named from here" in message:
         return "HOLLOW", "%s  by %s %s: %s" % (name, file, declaration, message[:120])
     rows = any(d == "cases" and "was not admitted" not in m for f, d, m in errors)
     return "REFUSED" if bend["reason"] else "refused", "%s  by %s %s%s" % (name, file, declaration, " + rows" if rows else "")
