@@ -131,13 +131,13 @@ module _ (states arities : List ℕ) where
   all_holds : (ps : List Production) (sets : List ℕ) (j t : ℕ) → T (has (get_or sets j 0) t) → T (has (get_or (mark_all states arities ps sets) j 0) t)
   all_holds ps sets j t h = all_keep (λ l. T (has (get_or l j 0) t)) ps (λ p at k l gives q. joined_keeps l k (added 0 p.target) j t q) sets h
 
-  all_give : (ps : List Production) (sets : List ℕ) (j t : ℕ) (p : Production)
+  all_give : (p : Production) (ps : List Production) (sets : List ℕ) (j t : ℕ)
       → Memᴰ p ps
       → Gives p j t
       → j < length sets
       → T (has (get_or (mark_all states arities ps sets) j 0) t)
   unfolding mark_production
-  all_give ps sets j t p (mem_head {x = q} {xs = qs} e) gives lt =
+  all_give p ps sets j t (mem_head {x = q} {xs = qs} e) gives lt =
       all_holds qs (mark_production states arities q sets) j t
       (subst (λ (r : Production). T (has (get_or (mark_production states arities r sets) j 0) t)) e
       (subst₂ (λ (k u : ℕ). T (has (get_or (mark_production states arities p sets) k 0) u)) (sym at) (sym gives.type-is)
@@ -148,8 +148,8 @@ module _ (states arities : List ℕ) where
 
       at : j ≡ base + cell_from (length states) 0 gives.row
       at = gives.place_is ∙ ap (λ (k : ℕ). base + k) (sym (from_zero (length states) gives.row))
-  all_give ps sets j t p (mem_tail {x = q} {xs = qs} at) gives lt =
-      all_give qs (mark_production states arities q sets) j t p at gives (subst (λ (k : ℕ). j < k) (sym (length-mark_production states arities q sets refl)) lt)
+  all_give p ps sets j t (mem_tail {x = q} {xs = qs} at) gives lt =
+      all_give p qs (mark_production states arities q sets) j t at gives (subst (λ (k : ℕ). j < k) (sym (length-mark_production states arities q sets refl)) lt)
 
   module _ (types : ℕ) (low : types ≤ 16) (ps : List Production) (well : All (WellProduction types arities) ps) where
     -- a row that a production fits is a row of its symbol
@@ -236,7 +236,7 @@ module _ (states arities : List ℕ) where
               type-is = sym (eqb→eq p.target t names.0);
               place_is = ap (λ (k : ℕ). place (length states) arities k row) (sym (eqb→eq p.symbol f names.1));
             } in
-            all_give ps (cleared sets (cells (length states) arities)) at t p found.1 gives
+            all_give p ps (cleared sets (cells (length states) arities)) at t found.1 gives
             (subst (λ (k : ℕ). at < k) (sym (length-cleared sets (cells (length states) arities) room)) (lt_of_lt_of_le at_lt room))
 
         end-at : get_or end at 0 ≡ step ps types f (sets_at states row)

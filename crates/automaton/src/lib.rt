@@ -15,7 +15,7 @@ ghost use Rattle.automaton.specs.Marking.{mark_rows, mark_production, Markable, 
 use fields::Found;
 
 // A set of types: type t is bit t. It is handed in and handed back, never altered behind the caller.
-#[derive(Drop)]
+#[derive(Clone, Copy)]
 pub struct TypeSet {
     pub bits: u16,
 }
