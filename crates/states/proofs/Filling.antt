@@ -3,9 +3,10 @@ use Rattle.meaning.proofs.Prelude.{ℕ, ◌≤◌, ◌≡◌, sym, ap, ◌∙◌
 use Rattle.meaning.proofs.Prelude.{arith}
 use Rattle.meaning.proofs.Definitions.{All, Production, cells, step, signature, insert_all, grow, tables}
 use Rattle.meaning.proofs.Lists.{All-map}
+use Rattle.fields.specs.Found.{contents_from}
 use Rattle.automaton.specs.Sets.{given_sets}
-use Rattle.automaton.specs.Marking.{Fillable}
-use Rattle.states.specs.Asked.{Limited, most_cells}
+use Rattle.automaton.specs.Marking.{AreProductions, Fillable}
+use Rattle.states.specs.Asked.{Limited, Determinable, productions_at, most_cells}
 use Rattle.states.specs.Packed.{indices}
 use Rattle.states.proofs.Tables.{length-reached, indices-tables, cells-most}
 
@@ -30,6 +31,18 @@ module _ (arities : List ℕ) (types : ℕ) (limited : Limited arities types) wh
 pub record Filled (productions : List Production) (types : ℕ) (states arities buffer : List ℕ) (k : ℕ) : Type 0 where
   pub holds : buffer ≡ given_sets productions types states arities ++ drop (cells (length states) arities) (replicate most_cells 0)
   pub counts : k ≡ cells (length states) arities
+
+-- as the automaton's pass over the productions leaves it
+pub filled_of :
+    {file arities sets : List ℕ} {from count k types : ℕ} (states : List ℕ)
+    → ((u : ℕ)
+    → u ≤ 16
+    → AreProductions u arities count (contents_from count (drop from file))
+    → sets ≡ given_sets (productions_at file from count) u states arities ++ drop (cells (length states) arities) (replicate most_cells 0))
+    → k ≡ cells (length states) arities
+    → Determinable file from count arities types
+    → Filled (productions_at file from count) types states arities sets k
+filled_of {types = types} states fills counts given = record { holds = fills types given.limited.bits given.productions; counts = counts }
 
 module _
     {productions : List Production} {types : ℕ} {states arities buffer : List ℕ} {k : ℕ}

@@ -21,14 +21,14 @@ const MOST: usize = meaning::MOST_STATES;
 const CELLS: usize = meaning::MOST_SYMBOLS as usize * MOST * MOST;
 
 // How many states there are, if at most 16.
-#[derive(Drop)]
+#[derive(Clone, Copy)]
 pub enum Count {
     Known(usize),
     TooMany,
 }
 
 // The states, rising, with zeros behind them; zeros only if they are too many.
-#[derive(Drop)]
+#[derive(Clone, Copy)]
 pub struct States {
     pub count: Count,
     pub sets: [u16; MOST],
