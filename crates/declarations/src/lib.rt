@@ -28,7 +28,7 @@ pub const CLAUSES: usize = meaning::CLAUSE_TAG as usize;
 pub const QUERIES: usize = meaning::QUERY_TAG as usize;
 
 // What reading keeps of the fields read so far. The first two go by tag; their place 0 is not used.
-#[derive(Drop)]
+#[derive(Clone, Copy)]
 pub struct Known {
     // How many fields of each kind there are.
     pub counts: [u8; KINDS],
@@ -40,7 +40,7 @@ pub struct Known {
 }
 
 // Why a file is refused, with the place; or that it is not.
-#[derive(Drop)]
+#[derive(Clone, Copy)]
 pub enum Refusal {
     None,
     TooLong,
