@@ -1,5 +1,5 @@
 -- What is known of an accepted file: its limits, and the arities of its predicates. Assumes nothing.
-use Rattle.meaning.proofs.Prelude.{ℕ, ◌≤◌, ◌<◌, ◌≡◌, sym, ap, ◌∙◌, subst, List, [], lit<, length, get_or, arith}
+use Rattle.meaning.proofs.Prelude.{ℕ, ◌≤◌, ◌≡◌, sym, ap, ◌∙◌, subst, List, [], lit<, length, get_or, arith}
 use Rattle.meaning.proofs.Definitions.{All, predicate, most_of, most_predicate_arity, most_states, fields, accepted, contents, arities_in, first_byte}
 use Rattle.meaning.proofs.Definitions.{is_refused, first_refused, rules_in, rules_of, read_answer, file_answer, symbol_arities, predicate_arities, states_of}
 use Rattle.meaning.proofs.Lists.{All-map, mem-place}
