@@ -40,7 +40,7 @@ pub fn field<'a>(r: Reader<'a>) -> Found
 // The content of the field at the reader's position, as that very part of the caller's bytes; an empty part where no whole field stands.
 pub fn content<'a>(r: Reader<'a>) -> &'a [u8]
     ensures result_value { result.now ≡ content_in (front_of (drop r.entry.at r.entry.bytes.now)) }
-    ensures ref_ptr_value { T (is_whole (front_of (drop r.entry.at r.entry.bytes.now))) → (result.ref_ptr.0 ≡ r.entry.bytes.ptr.0) × (result.ref_ptr.1 ≡ r.entry.at + 3 + r.entry.bytes.ptr.1) }
+    ensures ref_ptr_value { T (is_whole (front_of (drop r.entry.at r.entry.bytes.now))) → (result.ref_ptr.0 ≡ r.entry.bytes.ref_ptr.0) × (result.ref_ptr.1 ≡ r.entry.at + 3 + r.entry.bytes.ref_ptr.1) }
 {
     fields::content_at(r.bytes, r.at)
 }
