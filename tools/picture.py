@@ -21,7 +21,7 @@ PHRASES = """
 meaning          what is claimed, / and its theorems
 evaluation       semi-naive evaluation: / definitions, laws
 answers          a number / and a place
-bytes            widths, comparison, / fills, copies
+byte_runs            widths, comparison, / fills, copies
 bitsets          states, predicates, / clauses as bits
 cells            powers of m, cells / of rows, segments
 buffers          are lent buffers / long enough (9)
@@ -89,7 +89,8 @@ def read_crates():
             last = line[5:].strip()
         name, colon, rest = line.split("#")[0].partition(":")
         if colon:
-            group[name.strip()], stands[name.strip()] = last, rest.split()
+            name = name.split()[0]  # without what kind of library it is
+            group[name], stands[name] = last, rest.split()
     if set(group.values()) != {g for row in ROWS for g in row}:
         fail("the groups of crates.txt are not those of the picture's rows")
     stands = {c: [d for d in on if d in stands] for c, on in stands.items()}  # without the toolchain's libraries

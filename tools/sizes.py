@@ -16,7 +16,7 @@ the check of each crate took in one run of the gate, which proves two crates at 
 
 def names():
     for line in (ROOT / "crates.txt").read_text().splitlines():
-        name = line.split("#")[0].split(":")[0].strip()
+        name = line.split("#")[0].split(":")[0].split(" ")[0].strip()
         if name:
             yield name
 
