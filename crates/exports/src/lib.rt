@@ -1,4 +1,5 @@
-// The three public calls for C and Rust: functions on numbers and slices. Each answers the number; the place and the counts come through references.
+// The three public calls, over numbers and slices, as C and Rust take them. Each answers the number; the place and the counts come through references. `exports_c` hands
+// them to C.
 
 #![tactic(auto)]
 
@@ -7,8 +8,7 @@ ghost use Rattle.meaning.specs.Calls.{analysed, checked, WrittenInOrder};
 ghost use Rattle.exports.specs.Numbers.{analysis, writing, check};
 
 // Analyses a rule file: its states, tables, model and verdicts.
-#[unsafe(no_mangle)]
-pub extern "C" fn rules_analyse(
+pub fn rules_analyse(
     file: &[u8],
     states: &mut [u16],
     tables: &mut [u8],
@@ -31,8 +31,7 @@ pub extern "C" fn rules_analyse(
 }
 
 // Analyses a rule file and writes its sheet.
-#[unsafe(no_mangle)]
-pub extern "C" fn rules_write(
+pub fn rules_write(
     file: &[u8],
     states: &mut [u16],
     tables: &mut [u8],
@@ -58,8 +57,7 @@ pub extern "C" fn rules_write(
 }
 
 // Checks a sheet for a rule file.
-#[unsafe(no_mangle)]
-pub extern "C" fn rules_check(
+pub fn rules_check(
     file: &[u8],
     sheet: &[u8],
     tables: &mut [u8],

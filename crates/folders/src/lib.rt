@@ -2,11 +2,14 @@
 
 #![tactic(auto)]
 
-ghost use Rattle.std.specs.Prelude.{◌≤◌, ◌<◌, ◌≡◌, length};
-ghost use Rattle.io.specs.Counts.{IsPrefixLen};
+ghost use Rattle.std.specs.Prelude.{◌≤◌, ◌<◌, ◌≡◌, IfOk, length};
+ghost use Rattle.folders.specs.Counts.{IsPrefixLen};
 ghost use Rattle.folders.specs.Paths.{numbered_path};
 
-use libc::STDOUT_FILENO;
+use std::fs::File;
+use std::io;
+use std::io::ErrorKind;
+use std::rt::Files;
 
 // The most files of a folder: their numbers have three digits.
 pub const FILES: usize = 1000;
@@ -27,26 +30,23 @@ pub struct Read {
     pub bytes: usize,
 }
 
-fn print(text: &[u8]) {
-    io::write_all(STDOUT_FILENO, text);
-}
-
 // A line about a file.
-pub fn print_about(path: &[u8], what: &[u8]) {
-    print(path);
-    print(b": ");
-    print(what);
-    print(b"\n");
+pub fn print_about(rt: &impl Print, path: &[u8], what: &[u8]) -> io::Result<()> {
+    rt.write_all(path)?;
+    rt.write_all(b": ")?;
+    rt.write_all(what)?;
+    rt.write_all(b"\n")
 }
 
 // The last line about a folder.
-pub fn print_counts(folder: &[u8], files: usize, differences: usize) {
-    print(folder);
-    print(b": ");
-    io::print_decimal(STDOUT_FILENO, files as u64);
-    print(b" files, ");
-    io::print_decimal(STDOUT_FILENO, differences as u64);
-    print(b" differences\n");
+pub fn print_counts(
+    rt: &impl Print,
+    folder: &[u8],
+    files: usize,
+    differences: usize,
+) -> io::Result<()> {
+    rt.write_all(folder)?;
+    println!(rt; ": {files} files, {differences} differences")
 }
 
 // The path of file k, by its three digits, which stand after a folder of four letters.
@@ -59,37 +59,60 @@ pub fn put_digits(path: &mut [u8], k: usize)
     path[7] = (48 + k % 10) as u8;
 }
 
-// A file, or as much of its start as the buffer holds.
-pub fn read_file(path: &[u8], buffer: &mut [u8]) -> Read
-    ensures { IsPrefixLen result.bytes buffer.new }
+// Reads until the buffer is full or the reader ends, and hands back how many bytes are at the buffer's start. A read that a signal interrupts is tried again.
+fn read_full(reader: &mut impl io::Read, buffer: &mut [u8]) -> io::Result<usize>
+    ensures { IfOk result (λ n. IsPrefixLen n buffer.new) }
 {
-    let fd = os::open_read(path);
-    if fd < 0 {
-        return Read {
+    let mut done = 0;
+    for _ in 0..u64::MAX {
+        match reader.read(&mut buffer[done..]) {
+            Ok(0) => break,
+            Ok(n) => done += n,
+            Err(error) => {
+                if error.kind() != ErrorKind::Interrupted {
+                    return Err(error);
+                }
+            }
+        }
+    }
+    Ok(done)
+}
+
+// A file, or as much of its start as the buffer holds.
+pub fn read_file(rt: &impl Files, path: &[u8], buffer: &mut [u8]) -> io::Result<Read>
+    ensures { IfOk result (λ r. IsPrefixLen r.bytes buffer.new) }
+{
+    let Ok(name) = str::from_utf8(path) else {
+        return Err(io::Error::from(ErrorKind::InvalidInput));
+    };
+    match File::open(rt, name) {
+        Ok(mut file) => {
+            let bytes = read_full(&mut file, buffer)?;
+            Ok(Read { found: true, bytes })
+        }
+        Err(error) if error.kind() == ErrorKind::NotFound => Ok(Read {
             found: false,
             bytes: 0,
-        };
+        }),
+        Err(error) => Err(error),
     }
-    let bytes = io::read_full(fd, buffer);
-    libc::close(fd);
-    Read { found: true, bytes }
 }
 
 // What stands beside a rule file. It must leave a byte of the buffer, so that all of it was read; if it does not, or is missing, that is printed.
-pub fn read_beside(path: &[u8], buffer: &mut [u8]) -> Read
-    ensures { IsPrefixLen result.bytes buffer.new }
+pub fn read_beside(rt: &(impl Files + Print), path: &[u8], buffer: &mut [u8]) -> io::Result<Read>
+    ensures { IfOk result (λ r. IsPrefixLen r.bytes buffer.new) }
 {
-    let read = read_file(path, buffer);
+    let read = read_file(rt, path, buffer)?;
     if !read.found {
-        print_about(path, b"missing");
-        return read;
+        print_about(rt, path, b"missing")?;
+        return Ok(read);
     }
     if read.bytes == buffer.len() {
-        print_about(path, b"too long");
-        return Read {
+        print_about(rt, path, b"too long")?;
+        return Ok(Read {
             found: false,
             bytes: 0,
-        };
+        });
     }
-    read
+    Ok(read)
 }

@@ -4,13 +4,17 @@
 
 #![tactic(auto)]
 
-ghost use Rattle.std.specs.Prelude.{◌+◌, ◌≤◌, ◌<◌, ◌≡◌, true, length, get_or};
+ghost use Rattle.std.specs.Prelude.{◌+◌, ◌≤◌, ◌<◌, ◌≡◌, true, IfOk, length, get_or};
 ghost use Rattle.meaning.specs.Fields.{word};
 ghost use Rattle.sheet_vectors.specs.Expected.{IsSheet};
 
 use folders::Outcome;
+use std::io;
+use std::rt::Files;
 
-// Room for the domain atoms of the files played, and for what stands beside one and a byte more.
+// Room for a rule file, for the domain atoms of the files played, and for what stands beside one and a byte more.
+const FILE: usize = 65536;
+
 const MARKS: usize = 8192;
 
 const TEXT: usize = 8192;
@@ -23,7 +27,7 @@ const COUNT: usize = 3;
 const CELLS: usize = 5;
 
 // What of a file is compared with what stands beside it.
-#[derive(Drop)]
+#[derive(Clone, Copy)]
 pub enum Way {
     // The answer to a sheet that is offered, and the tables.
     Check,
@@ -63,14 +67,14 @@ fn is_checked(file: &[u8], expected: &[u8], tables: &mut [u8], marks: &mut [u8])
 }
 
 // Whether a sheet is answered, and the tables written, as expected; if not, that is printed.
-fn compare_check(path: &[u8], file: &[u8], expected: &[u8]) -> bool {
+fn compare_check(rt: &impl Print, path: &[u8], file: &[u8], expected: &[u8]) -> io::Result<bool> {
     let mut tables = [0u8; buffers::TABLES];
     let mut marks = [0u8; MARKS];
     if is_checked(file, expected, &mut tables, &mut marks) {
-        return true;
+        return Ok(true);
     }
-    folders::print_about(path, b"other answer to the sheet, or other tables");
-    false
+    folders::print_about(rt, path, b"other answer to the sheet, or other tables")?;
+    Ok(false)
 }
 
 // Whether some bytes are the sheet that is written for a file, in the lent buffers.
@@ -95,8 +99,8 @@ fn is_sheet(
 }
 
 // Whether some bytes are the sheet that is written for a file; if not, that is printed.
-fn compare_sheet(path: &[u8], file: &[u8], expected: &[u8]) -> bool
-    ensures { result ≡ true → IsSheet file.now expected.now }
+fn compare_sheet(rt: &impl Print, path: &[u8], file: &[u8], expected: &[u8]) -> io::Result<bool>
+    ensures { IfOk result (λ is. is ≡ true → IsSheet file.now expected.now) }
 {
     let mut states = [0u16; buffers::STATES];
     let mut tables = [0u8; buffers::TABLES];
@@ -113,42 +117,59 @@ fn compare_sheet(path: &[u8], file: &[u8], expected: &[u8]) -> bool
         &mut sheet,
     );
     if is {
-        return true;
+        return Ok(true);
     }
-    folders::print_about(path, b"other sheet");
-    false
+    folders::print_about(rt, path, b"other sheet")?;
+    Ok(false)
 }
 
 // By one of the ways.
-fn compare_by(way: Way, path: &[u8], file: &[u8], beside: &[u8]) -> bool {
+fn compare_by(
+    rt: &impl Print,
+    way: Way,
+    path: &[u8],
+    file: &[u8],
+    beside: &[u8],
+) -> io::Result<bool> {
     match way {
-        Way::Check => compare_check(path, file, beside),
-        Way::Sheet => compare_sheet(path, file, beside),
+        Way::Check => compare_check(rt, path, file, beside),
+        Way::Sheet => compare_sheet(rt, path, file, beside),
     }
 }
 
 // A rule file and what stands beside it, by their paths. Of a longer file than the buffer holds the start is refused as the whole is.
-fn play_file(rules: &[u8], beside: &[u8], way: Way) -> Outcome {
-    let mut file = io::large_buffer();
-    let read = folders::read_file(rules, &mut file);
+fn play_file(
+    rt: &(impl Files + Print),
+    rules: &[u8],
+    beside: &[u8],
+    way: Way,
+) -> io::Result<Outcome> {
+    let mut file = [0u8; FILE];
+    let read = folders::read_file(rt, rules, &mut file)?;
     if !read.found {
-        return Outcome::Missing;
+        return Ok(Outcome::Missing);
     }
     let mut text = [0u8; TEXT];
-    let other = folders::read_beside(beside, &mut text);
+    let other = folders::read_beside(rt, beside, &mut text)?;
     if !other.found {
-        return Outcome::Different;
+        return Ok(Outcome::Different);
     }
     let n = read.bytes;
     let m = other.bytes;
-    if compare_by(way, rules, &file[..n], &text[..m]) {
-        return Outcome::Same;
+    if compare_by(rt, way, rules, &file[..n], &text[..m])? {
+        return Ok(Outcome::Same);
     }
-    Outcome::Different
+    Ok(Outcome::Different)
 }
 
 // The files of a folder, from 000 to the first that is missing.
-fn play(folder: &[u8], rules: &mut [u8], beside: &mut [u8], way: Way)
+fn play(
+    rt: &(impl Files + Print),
+    folder: &[u8],
+    rules: &mut [u8],
+    beside: &mut [u8],
+    way: Way,
+) -> io::Result<()>
     requires { (8 ≤ length rules.old) × (8 ≤ length beside.old) }
 {
     let mut files: usize = 0;
@@ -156,10 +177,9 @@ fn play(folder: &[u8], rules: &mut [u8], beside: &mut [u8], way: Way)
     while files < folders::FILES {
         folders::put_digits(rules, files);
         folders::put_digits(beside, files);
-        match play_file(rules, beside, way) {
+        match play_file(rt, rules, beside, way)? {
             Outcome::Missing => {
-                folders::print_counts(folder, files, differences);
-                return;
+                return folders::print_counts(rt, folder, files, differences);
             }
             Outcome::Same => {
                 files += 1;
@@ -170,22 +190,22 @@ fn play(folder: &[u8], rules: &mut [u8], beside: &mut [u8], way: Way)
             }
         }
     }
-    folders::print_counts(folder, files, differences);
+    folders::print_counts(rt, folder, files, differences)
 }
 
-fn play_pass() {
+fn play_pass(rt: &(impl Files + Print)) -> io::Result<()> {
     let mut rules = *b"pass/000.rules";
     let mut beside = *b"pass/000.check";
-    play(b"pass", &mut rules, &mut beside, Way::Check);
+    play(rt, b"pass", &mut rules, &mut beside, Way::Check)
 }
 
-fn play_made() {
+fn play_made(rt: &(impl Files + Print)) -> io::Result<()> {
     let mut rules = *b"made/000.rules";
     let mut beside = *b"made/000.sheet";
-    play(b"made", &mut rules, &mut beside, Way::Sheet);
+    play(rt, b"made", &mut rules, &mut beside, Way::Sheet)
 }
 
-fn main() {
-    play_pass();
-    play_made();
+fn main(rt: HostRuntime) -> io::Result<()> {
+    play_pass(&rt)?;
+    play_made(&rt)
 }

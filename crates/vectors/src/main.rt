@@ -3,7 +3,7 @@
 
 #![tactic(auto)]
 
-ghost use Rattle.std.specs.Prelude.{◌+◌, ◌≤◌, ◌≡◌, true, not, ◌&&◌, eqb, length};
+ghost use Rattle.std.specs.Prelude.{◌+◌, ◌≤◌, ◌≡◌, true, not, ◌&&◌, eqb, IfOk, length};
 ghost use Rattle.meaning.specs.Lists.{same};
 ghost use Rattle.meaning.specs.Calls.{rounds_of, atoms_of};
 ghost use Rattle.declarations.specs.Known.{Knows, fields_read};
@@ -13,11 +13,17 @@ ghost use Rattle.vectors.specs.Expected.{stands_at};
 
 use declarations::Known;
 use folders::Outcome;
+use std::io;
+use std::rt::Files;
 
-// Room for the domain atoms of the files played, and for a listing and a byte more.
+// Room for a rule file, for the domain atoms of the files played, for a listing and a byte more, and for a piece of one.
+const FILE: usize = 65536;
+
 const MARKS: usize = 8192;
 
 const TEXT: usize = 8192;
+
+const OUT: usize = 4096;
 
 // Whether some bytes stand in a listing at a place.
 fn stands_at(expected: &[u8], from: usize, bytes: &[u8]) -> bool
@@ -130,14 +136,14 @@ fn is_listing(
 }
 
 // Whether a listing is that of a file; if not, that is printed. The buffers are as long as any file needs, but for the marks.
-fn compare_listing(path: &[u8], file: &[u8], expected: &[u8]) -> bool
-    ensures { result ≡ true → expected.now ≡ listing file.now }
+fn compare_listing(rt: &impl Print, path: &[u8], file: &[u8], expected: &[u8]) -> io::Result<bool>
+    ensures { IfOk result (λ is. is ≡ true → expected.now ≡ listing file.now) }
 {
     let mut states = [0u16; buffers::STATES];
     let mut tables = [0u8; buffers::TABLES];
     let mut marks = [0u8; MARKS];
     let mut verdicts = [0u8; buffers::VERDICTS];
-    let mut out = io::buffer();
+    let mut out = [0u8; OUT];
     let is = is_listing(
         file,
         expected,
@@ -148,34 +154,39 @@ fn compare_listing(path: &[u8], file: &[u8], expected: &[u8]) -> bool
         &mut out,
     );
     if is {
-        return true;
+        return Ok(true);
     }
-    folders::print_about(path, b"other listing");
-    false
+    folders::print_about(rt, path, b"other listing")?;
+    Ok(false)
 }
 
 // A rule file and what stands beside it, by their paths. Of a longer file than the buffer holds the start is refused as the whole is.
-fn play_file(rules: &[u8], beside: &[u8]) -> Outcome {
-    let mut file = io::large_buffer();
-    let read = folders::read_file(rules, &mut file);
+fn play_file(rt: &(impl Files + Print), rules: &[u8], beside: &[u8]) -> io::Result<Outcome> {
+    let mut file = [0u8; FILE];
+    let read = folders::read_file(rt, rules, &mut file)?;
     if !read.found {
-        return Outcome::Missing;
+        return Ok(Outcome::Missing);
     }
     let mut text = [0u8; TEXT];
-    let other = folders::read_beside(beside, &mut text);
+    let other = folders::read_beside(rt, beside, &mut text)?;
     if !other.found {
-        return Outcome::Different;
+        return Ok(Outcome::Different);
     }
     let n = read.bytes;
     let m = other.bytes;
-    if compare_listing(rules, &file[..n], &text[..m]) {
-        return Outcome::Same;
+    if compare_listing(rt, rules, &file[..n], &text[..m])? {
+        return Ok(Outcome::Same);
     }
-    Outcome::Different
+    Ok(Outcome::Different)
 }
 
 // The files of a folder, from 000 to the first that is missing.
-fn play(folder: &[u8], rules: &mut [u8], beside: &mut [u8])
+fn play(
+    rt: &(impl Files + Print),
+    folder: &[u8],
+    rules: &mut [u8],
+    beside: &mut [u8],
+) -> io::Result<()>
     requires { (8 ≤ length rules.old) × (8 ≤ length beside.old) }
 {
     let mut files: usize = 0;
@@ -183,10 +194,9 @@ fn play(folder: &[u8], rules: &mut [u8], beside: &mut [u8])
     while files < folders::FILES {
         folders::put_digits(rules, files);
         folders::put_digits(beside, files);
-        match play_file(rules, beside) {
+        match play_file(rt, rules, beside)? {
             Outcome::Missing => {
-                folders::print_counts(folder, files, differences);
-                return;
+                return folders::print_counts(rt, folder, files, differences);
             }
             Outcome::Same => {
                 files += 1;
@@ -197,22 +207,22 @@ fn play(folder: &[u8], rules: &mut [u8], beside: &mut [u8])
             }
         }
     }
-    folders::print_counts(folder, files, differences);
+    folders::print_counts(rt, folder, files, differences)
 }
 
-fn play_base() {
+fn play_base(rt: &(impl Files + Print)) -> io::Result<()> {
     let mut rules = *b"base/000.rules";
     let mut beside = *b"base/000.listing";
-    play(b"base", &mut rules, &mut beside);
+    play(rt, b"base", &mut rules, &mut beside)
 }
 
-fn play_full() {
+fn play_full(rt: &(impl Files + Print)) -> io::Result<()> {
     let mut rules = *b"full/000.rules";
     let mut beside = *b"full/000.listing";
-    play(b"full", &mut rules, &mut beside);
+    play(rt, b"full", &mut rules, &mut beside)
 }
 
-fn main() {
-    play_base();
-    play_full();
+fn main(rt: HostRuntime) -> io::Result<()> {
+    play_base(&rt)?;
+    play_full(&rt)
 }
