@@ -60,7 +60,8 @@ sheet_check      the call / check
 analysis_output  model and verdicts / into lent buffers
 analysis         the call analyse
 certificate      the call / write
-exports          the three calls / for C and Rust
+exports          the three calls / on slices
+exports_c        the static library / for C and Rust
 text             decimals / into a buffer
 listing_text     the text of / a listing's lines
 listing_answer   analysis for a listing, / or a refusal's line
