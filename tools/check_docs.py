@@ -13,7 +13,7 @@ import reading
 
 ROOT = Path(__file__).resolve().parent.parent
 # words between backquotes that look like names and are none of ours
-OTHERS = set("semi-naive RULES_LIB_DIR add-one".split())
+OTHERS = set("semi-naive RULES_LIB_DIR add-one length-drop".split())
 # parts of words that stand for any name
 ANY = re.compile(r"NAME|LABEL|FUNCTION|NNN|Pn|\.\.|\+f\+g")
 
@@ -62,8 +62,8 @@ def is_there(word):
         return word in EDITS or f"crates/{word}" in FOLDERS or word in FOLDERS
     if re.fullmatch(r"(crates|docs|bindings|rules|include|tools)/[\w/.+-]*", word):
         return word.rstrip("/") in FOLDERS | FILES
-    if re.fullmatch(r"[a-z][\w′]*(-[\w′]+)+", word):
-        return word in NAMES
+    if re.fullmatch(r"[a-z][\w']*([-_][\w']+)+", word):
+        return word in NAMES | CRATES
     if re.fullmatch(r"[A-Za-z]*[a-z][A-Z]\w*|[A-Z][a-z]+\w*", word):
         return word in NAMES or any(name.endswith(f"/{word}.antt") for name in FILES)
     return True
@@ -96,7 +96,7 @@ def rooms():
 
 
 def main():
-    found = [f"{page.relative_to(ROOT)}: {what}" for page in tracked("*.md") for what in missing(page)]
+    found = [f"{page.relative_to(ROOT)}: {what}" for page in tracked("*.md") if page.name != "PORT.md" for what in missing(page)]  # PORT.md names what is no more
     found += list(reading_table()) + list(rooms())
     for line in found:
         print(line)
