@@ -1,0 +1,11 @@
+-- `sheet_check::judge_cleanly` meets its contract: the marks are zeroed before and after. Assumes nothing.
+use Rattle.meaning.proofs.Prelude.{◌∙◌}
+use Rattle.acceptance.proofs.Handing.{few-states, narrow-preds}
+use Rattle.sheet_answer.proofs.Judging.{length_zeros}
+use Rattle.sheet_check.proofs.judge_cleanly.Goals as goal
+
+pub zero_all-requires : goal.zero_all-requires
+zero_all-requires c = (few-states c.requires.0, narrow-preds c.requires.0, c.requires.2)
+
+pub zero_all-requires-2 : goal.zero_all-requires-2
+zero_all-requires-2 c = (few-states c.requires.0, narrow-preds c.requires.0, c.judge_sheet-answer.ensures.size ∙ length_zeros _ c.zero_all.ensures)
