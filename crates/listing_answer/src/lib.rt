@@ -27,7 +27,7 @@ pub fn answer(
     ensures { AnsweredIn file.now (record { states = states.entry.now; tables = tables.old; marks = marks.old; verdicts = verdicts.old }) (record { states = states.exit.now; tables = tables.new; marks = marks.new; verdicts = verdicts.new }) out.old out.new result }
 {
     let analysis = analysis::analyse(file, states, tables, marks, verdicts);
-    let answer = analysis.answer;
+    let answer = &analysis.answer;
     if answer.number == 0 {
         return Answered { analysis, text: 0 };
     }
