@@ -1,0 +1,40 @@
+-- The parts of the buffers hold the file's states, model and verdicts.
+use Rattle.std.proofs.Common.{◌≡◌, sym, length, take}
+use Rattle.meaning.proofs.Prelude.{length-take-le}
+use Rattle.meaning.specs.Calls.{states_of, model_of, verdicts_of}
+use Rattle.byte_runs.proofs.Written.{holds-room, holds-first}
+use Rattle.analysis.proofs.Shown.{shown-few, preds-few, preds-narrow, marks-size, verdicts-size}
+use Rattle.listing.proofs.print_results.Goals as goal
+
+pub cells_of-size-requires : goal.cells_of-size-requires
+cells_of-size-requires g c =
+    let f = c.requires.0 in
+    let knows = c.read-reading.ensures.1 in
+    (shown-few f knows, preds-few f knows c.wide-p.ensures.0, preds-narrow f knows c.wide-p.ensures.0)
+
+pub slice_bounds-print_pieces-end-2 : goal.slice_bounds-print_pieces-end-2
+slice_bounds-print_pieces-end-2 g c =
+    let f = c.requires.0 in
+    sym (length-take-le c.cells_of-size.result c.args.marks.now (holds-room (model_of c.args.file.now) c.args.marks.now f.marks_are (marks-size f c.read-reading.ensures.1 c.wide-p.ensures.0 c.cells_of-size.ensures)))
+
+pub slice_bounds-print_pieces-end-3 : goal.slice_bounds-print_pieces-end-3
+slice_bounds-print_pieces-end-3 g c =
+    let f = c.requires.0 in
+    sym (length-take-le c.wide-queries.result c.args.verdicts.now (holds-room (verdicts_of c.args.file.now) c.args.verdicts.now f.verdicts_are (verdicts-size f c.read-reading.ensures.1 c.wide-queries.ensures.0)))
+
+pub print_pieces-requires : goal.print_pieces-requires
+print_pieces-requires g c =
+    let f = c.requires.0 in
+    let file = c.args.file.now in
+    let knows = c.read-reading.ensures.1 in (
+      record {
+        answer = f.answer;
+        states_are_lem = holds-first (states_of file) c.args.states.now f.states_are f.count;
+        marks_are_lem = holds-first (model_of file) c.args.marks.now f.marks_are (marks-size f knows c.wide-p.ensures.0 c.cells_of-size.ensures);
+        verdicts_are_lem = holds-first (verdicts_of file) c.args.verdicts.now f.verdicts_are (verdicts-size f knows c.wide-queries.ensures.0);
+      },
+      knows,
+      c.requires.1,
+      c.requires.2,
+      c.requires.3,
+    )
