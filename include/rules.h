@@ -1,6 +1,6 @@
 /* A proved analyser of rule files: the three public calls, for C and C++.
  *
- * Link with libexports.a (`rt staticlib exports` writes target/staticlib/libexports.a, for x86-64 Linux). The library
+ * Link with libexports.a (`make library` writes target/staticlib/libexports.a, for x86-64 Linux). The library
  * allocates nothing, keeps nothing between calls, and calls no foreign function but memcpy and memset. It may be used by
  * several threads at once, each with buffers of its own.
  *

@@ -15,7 +15,7 @@ fn main() {
     println!("cargo::rerun-if-changed={}", library.display());
     if !library.is_file() {
         println!(
-            "cargo::error={} is missing: run `rt staticlib exports` first, or set RULES_LIB_DIR to its folder",
+            "cargo::error={} is missing: run `make library` first, or set RULES_LIB_DIR to its folder",
             library.display()
         );
     }
