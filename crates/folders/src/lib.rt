@@ -78,9 +78,10 @@ fn read_full(reader: &mut impl io::Read, buffer: &mut [u8]) -> io::Result<usize>
     Ok(done)
 }
 
-// A file, or as much of its start as the buffer holds.
+// A file, or as much of its start as the buffer holds. A file that cannot be opened counts as none; a read that fails leaves any bytes in the buffer.
 pub fn read_file(rt: &impl Files, path: &[u8], buffer: &mut [u8]) -> io::Result<Read>
-    ensures { IfOk result (λ r. IsPrefixLen r.bytes buffer.new) }
+    ensures read { IfOk result (λ r. IsPrefixLen r.bytes buffer.new) }
+    ensures size { length buffer.new ≡ length buffer.old }
 {
     let Ok(name) = str::from_utf8(path) else {
         return Err(io::Error::from(ErrorKind::InvalidInput));
@@ -90,17 +91,17 @@ pub fn read_file(rt: &impl Files, path: &[u8], buffer: &mut [u8]) -> io::Result<
             let bytes = read_full(&mut file, buffer)?;
             Ok(Read { found: true, bytes })
         }
-        Err(error) if error.kind() == ErrorKind::NotFound => Ok(Read {
+        Err(_) => Ok(Read {
             found: false,
             bytes: 0,
         }),
-        Err(error) => Err(error),
     }
 }
 
 // What stands beside a rule file. It must leave a byte of the buffer, so that all of it was read; if it does not, or is missing, that is printed.
 pub fn read_beside(rt: &(impl Files + Print), path: &[u8], buffer: &mut [u8]) -> io::Result<Read>
-    ensures { IfOk result (λ r. IsPrefixLen r.bytes buffer.new) }
+    ensures read { IfOk result (λ r. IsPrefixLen r.bytes buffer.new) }
+    ensures size { length buffer.new ≡ length buffer.old }
 {
     let read = read_file(rt, path, buffer)?;
     if !read.found {
