@@ -1,8 +1,8 @@
 -- Demand 3 is met for every accepted file (specs/Demand3.antt). Assumes nothing.
 use Rattle.meaning.proofs.Prelude.{ℕ, ◌≤◌, ◌≡◌, refl, sym, ap, ◌∙◌, subst, ◌↔◌, List, T, eqb, length, length-append, take, drop, take_at}
-use Rattle.meaning.proofs.Prelude.{le_of_eq, arith}
+use Rattle.meaning.proofs.Prelude.{arith}
 use Rattle.meaning.proofs.Definitions.{Bytes, Answer, accepted, ok, encode_sheet, InSheet, Valid, answer_of_sheet, rules_of, file_answer}
-use Rattle.meaning.proofs.Definitions.{predicate_arities, states_of, interpretation_of, tables_of, model_of, written, Buffers, Written, written_in}
+use Rattle.meaning.proofs.Definitions.{predicate_arities, states_of, interpretation_of, written, Buffers, Written, written_in}
 use Rattle.meaning.proofs.Definitions.{writing_answer, WrittenInOrder, ours, Lent, LentEnough, lent_answer, Checked, checked, check_answer}
 use Rattle.meaning.proofs.Definitions.{CheckOf, Passes, Admitted, Accepted, Demand3}
 use Rattle.meaning.proofs.Lists.{cond_yes}

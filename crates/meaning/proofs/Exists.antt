@@ -1,6 +1,6 @@
 -- What the demands speak of is there: for an accepted file and buffers that are just long enough, an analysis that hands back 0 and the writing of a sheet that
 -- does; for every file and sheet, a sheet check with buffers long enough. Assumes nothing.
-use Rattle.meaning.proofs.Prelude.{ℕ, ◌≡◌, refl, sym, ap, List, T, le→leb, length, perm_refl, le_of_eq, le_refl}
+use Rattle.meaning.proofs.Prelude.{ℕ, ◌≡◌, refl, sym, ap, List, le→leb, length, perm_refl, le_of_eq, le_refl}
 use Rattle.meaning.proofs.Definitions.{Answer, encode_sheet, states_of, tables_of, model_of, atoms_of, verdicts_of, Buffers, LongEnough, Analysed, analysis_answer}
 use Rattle.meaning.proofs.Definitions.{analysed, AnalysisOf, Written, written_in, WrittenInOrder, Lent, LentEnough, Checked, checked, CheckOf, Accepted}
 use Rattle.meaning.proofs.Acceptance.{acceptance_given}

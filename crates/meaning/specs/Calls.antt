@@ -1,6 +1,6 @@
 -- The three public calls (01, "What is handed back"): number, place, counts and every byte of every lent buffer afterwards, as a function
 -- of the file, the sheet and the buffers before. Of a written sheet the order of the atoms is left free, and named as such.
-use Rattle.std.specs.Prelude.{ℕ, zero, ◌≤◌, ◌≡◌, Bool, cond, not, ◌&&◌, List, ◌++◌, map, leb, length, take, drop, replicate}
+use Rattle.std.specs.Prelude.{ℕ, ◌≤◌, ◌≡◌, Bool, cond, not, ◌&&◌, List, ◌++◌, map, leb, length, take, drop, replicate}
 use Rattle.meaning.specs.Syntax.{Query}
 use Rattle.meaning.specs.Limits.{most_states}
 use Rattle.meaning.specs.Legal.{Legal, arities}
