@@ -38,8 +38,10 @@ stack: library ## how much stack the calls take
 documents: ## every name in the documents is there, the tables and the picture are what their scripts write
 	python3 tools/check_docs.py
 
-pages: ## the pages and tables that scripts write, from the logs of the last gate
-	python3 tools/edits.py
+pages: ## the pages and tables that scripts write; the edits are tried for it
+	mkdir -p target
+	rt must-fail >target/must-fail.log
+	python3 tools/edits.py target/must-fail.log
 	python3 tools/sizes.py
 	python3 tools/reading.py --write
 
