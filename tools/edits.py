@@ -54,12 +54,18 @@ def fact(crate, said):
         folder, _, last = law.group(1).rpartition("/")
         if last not in ("Answers", "Invariants"):
             return f"law `{law.group(2)}` ({law.group(1)})", True
-        return name_of(folder.split("/")[-1].strip("+"), law.group(2))
-    note = re.match(r"note: (src/[\w/]+\.rt):(\d+):\d+: .*\(`([^`]+)`", said)
+        function, goal = folder.split("/")[-1], law.group(2)
+        of_cycle = re.match(r"(\w+)-(.+)", goal)
+        if function.startswith("+") and of_cycle and of_cycle.group(1) in function:
+            function, goal = of_cycle.groups()
+        return name_of(function.strip("+"), goal)
+    note = re.match(r"note: (src/[\w/]+\.rt):(\d+):(\d+): .*\(`([^`]+)`", said)
     if note:
-        lines = (ROOT / "crates" / crate / note.group(1)).read_text().splitlines()[: int(note.group(2))]
-        function = re.findall(r"\bfn (\w+)", "\n".join(lines))[-1]
-        return name_of(function, note.group(3))
+        path, line, column, goal = note.groups()
+        lines = (ROOT / "crates" / crate / path).read_text().splitlines()
+        # a note on the whole function stands at its first line, any other within it
+        near = lines[int(line) - 1 :] if column == "1" else reversed(lines[: int(line)])
+        return name_of(next(f.group(1) for f in map(re.compile(r"\bfn (\w+)").search, near) if f), goal)
     return "(the text alone)" if said else "(not said)", False
 
 
