@@ -18,7 +18,7 @@ use declarations::{Known, Refusal};
 use states::{Count, States};
 
 // The answer to a file, what was read of it, and its states: none if it is refused with 1 to 7.
-#[derive(Drop)]
+#[derive(Clone, Copy)]
 pub struct Acceptance {
     pub answer: Answer,
     pub known: Known,

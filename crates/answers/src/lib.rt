@@ -7,7 +7,7 @@ ghost use Rattle.meaning.specs.Refusals.{accepted, refused};
 ghost use Rattle.answers.specs.Answered.{answered};
 
 // A number with its place: 0 at 0 where nothing is refused.
-#[derive(Drop)]
+#[derive(Clone, Copy)]
 pub struct Answer {
     pub number: usize,
     pub place: usize,

@@ -14,7 +14,7 @@ use declarations::Known;
 use sheet_writer::Fit;
 
 // Number and place, and the counts of states, atoms, rounds and the sheet's bytes: each 0 with a refusal.
-#[derive(Drop)]
+#[derive(Clone, Copy)]
 pub struct Writing {
     pub answer: Answer,
     pub states: usize,

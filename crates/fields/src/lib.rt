@@ -10,7 +10,7 @@ ghost use Rattle.fields.specs.Found.{found_in, is_whole, content_in, next_in, nt
 pub const HEADER: usize = 3;
 
 // What stands at a position.
-#[derive(Drop)]
+#[derive(Clone, Copy)]
 pub enum Found {
     // No byte is left.
     End,

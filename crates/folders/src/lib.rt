@@ -15,7 +15,7 @@ use std::rt::Files;
 pub const FILES: usize = 1000;
 
 // How a file compares with what stands beside it.
-#[derive(Drop)]
+#[derive(Clone, Copy)]
 pub enum Outcome {
     // There is no such file.
     Missing,
@@ -24,7 +24,7 @@ pub enum Outcome {
 }
 
 // Whether there is a file that may be used, and how many of its bytes are in the buffer.
-#[derive(Drop)]
+#[derive(Clone, Copy)]
 pub struct Read {
     pub found: bool,
     pub bytes: usize,

@@ -8,7 +8,7 @@ ghost use Rattle.listing_answer.specs.Answered.{AnsweredIn};
 use analysis::Analysis;
 
 // What the analysis hands back, and how many bytes of text there are: none with 0.
-#[derive(Drop)]
+#[derive(Clone, Copy)]
 pub struct Answered {
     pub analysis: Analysis,
     pub text: usize,
@@ -27,7 +27,7 @@ pub fn answer(
     ensures { AnsweredIn file.now (record { states = states.entry.now; tables = tables.old; marks = marks.old; verdicts = verdicts.old }) (record { states = states.exit.now; tables = tables.new; marks = marks.new; verdicts = verdicts.new }) out.old out.new result }
 {
     let analysis = analysis::analyse(file, states, tables, marks, verdicts);
-    let answer = &analysis.answer;
+    let answer = analysis.answer;
     if answer.number == 0 {
         return Answered { analysis, text: 0 };
     }

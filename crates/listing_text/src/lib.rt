@@ -27,7 +27,7 @@ const SPACE: u8 = b' ';
 const LINE_END: u8 = b'\n';
 
 // A place of the marks: the predicate whose segment it lies in, and the cell that it is there.
-#[derive(Drop)]
+#[derive(Clone, Copy)]
 struct Place {
     predicate: usize,
     cell: usize,

@@ -86,7 +86,7 @@ fn with_field(known: Known, tag: u8, first: u8, at: usize) -> Known
 }
 
 // The answer, and beside it what was read before it.
-#[derive(Drop)]
+#[derive(Clone, Copy)]
 pub struct Reading {
     pub refusal: Refusal,
     pub known: Known,

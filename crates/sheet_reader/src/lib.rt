@@ -11,13 +11,13 @@ ghost use Rattle.sheet_reader.specs.Tags.{tag_in};
 use fields::Found;
 
 // What a search for a refusal finds: the lowest place that it fits, if there is one.
-#[derive(Drop)]
+#[derive(Clone, Copy)]
 pub enum Fault {
     Nowhere,
     At(usize),
 }
 
-#[derive(Drop)]
+#[derive(Clone, Copy)]
 pub struct Reader<'a> {
     pub bytes: &'a [u8],
     pub at: usize,

@@ -13,7 +13,7 @@ ghost use Rattle.sheet_writer.specs.Parts.{atom_fields, state_fields, part_atoms
 ghost use Rattle.sheet_writer.specs.Fits.{sheet_of, if_room, fit_of};
 
 // How a sheet fits a buffer: so many bytes are put, or none, since it is too short.
-#[derive(Drop)]
+#[derive(Clone, Copy)]
 pub enum Fit {
     Whole(usize),
     TooShort,
