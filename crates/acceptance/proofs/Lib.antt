@@ -2,3 +2,4 @@ pub mod Ready
 pub mod Answering
 pub mod Handed
 pub mod Handing
+pub mod Kept

@@ -10,7 +10,7 @@ use Rattle.acceptance.specs.Accepted.{states_given}
 use Rattle.states.specs.Packed.{packed, count_of}
 use Rattle.states.proofs.Packed.{count_fits, counted_sets}
 use Rattle.parser.proofs.Limits.{accepted-read, accepted-few}
-use Rattle.acceptance.proofs.Answering.{read-states}
+use Rattle.acceptance.proofs.Kept.{is_accepted, sets_fit, sets_are}
 use Rattle.analysis.specs.declared.Analysis.{Analysis}
 use Rattle.analysis.specs.Given.{given}
 use Rattle.analysis.proofs.Ends.{file_refused}
@@ -20,32 +20,14 @@ pub returns-then-answer-ne0 : goal.returns-then-answer-ne0
 returns-then-answer-ne0 c = ap (λ (r : Analysis). given r (record { states = c.args.states.now; tables = c.args.tables.now; marks = c.args.marks.now; verdicts = c.args.verdicts.now })) c.refused.ensures
     ∙ file_refused c.args.file.now (record { states = c.args.states.now; tables = c.args.tables.now; marks = c.args.marks.now; verdicts = c.args.verdicts.now }) c.accept-acceptance.ensures.0 (λ z. absurd (omega (arith, z)))
 
--- a file that is not refused is accepted, and its states are known: as many of the sets as there are states
-module _ (file : List ℕ) (answer : Answer) (e : answered answer ≡ file_answer file) (z : answer.number ≡ 0) where
-  is-accepted : file_answer file ≡ accepted
-  is-accepted = zero-accepted file (sym (ap (λ (a : meant.Answer). a.number) e) ∙ z)
-
-  module _ (states : States) (given : states ≡ states_given file) (m : ℕ) (count : m ≡ count_of states) where
-    states-are : states ≡ packed (states_of file)
-    states-are = given ∙ sym (read-states file (accepted-read file is-accepted))
-
-    few : length (states_of file) ≤ most_states
-    few = accepted-few file is-accepted
-
-    fits : m ≤ length states.sets
-    fits = omega (arith, count, count_fits (states_of file) few states-are)
-
-    found : take m states.sets ≡ states_of file
-    found = ap (λ (n : ℕ). take n states.sets) count ∙ counted_sets (states_of file) few states-are
-
 pub slice_bounds-sets-end : goal.slice_bounds-sets-end
-slice_bounds-sets-end c = fits c.args.file.now c.accept-acceptance.result.answer c.accept-acceptance.ensures.0 (omega arith) c.accept-acceptance.result.states c.accept-acceptance.ensures.2 c.count_of-m.result c.count_of-m.ensures
+slice_bounds-sets-end c = sets_fit c.args.file.now c.accept-acceptance.result.answer c.accept-acceptance.ensures.0 (omega arith) c.accept-acceptance.result.states c.accept-acceptance.ensures.2 c.count_of-m.result c.count_of-m.ensures
 
 pub slice_bounds-analyse_accepted-end : goal.slice_bounds-analyse_accepted-end
-slice_bounds-analyse_accepted-end c = sym (length-take-le c.count_of-m.result c.accept-acceptance.result.states.sets (fits c.args.file.now c.accept-acceptance.result.answer c.accept-acceptance.ensures.0 (omega arith) c.accept-acceptance.result.states c.accept-acceptance.ensures.2 c.count_of-m.result c.count_of-m.ensures))
+slice_bounds-analyse_accepted-end c = sym (length-take-le c.count_of-m.result c.accept-acceptance.result.states.sets (sets_fit c.args.file.now c.accept-acceptance.result.answer c.accept-acceptance.ensures.0 (omega arith) c.accept-acceptance.result.states c.accept-acceptance.ensures.2 c.count_of-m.result c.count_of-m.ensures))
 
 pub analyse_accepted-requires : goal.analyse_accepted-requires
-analyse_accepted-requires c = (is-accepted c.args.file.now c.accept-acceptance.result.answer c.accept-acceptance.ensures.0 (omega arith), c.accept-acceptance.ensures.1, found c.args.file.now c.accept-acceptance.result.answer c.accept-acceptance.ensures.0 (omega arith) c.accept-acceptance.result.states c.accept-acceptance.ensures.2 c.count_of-m.result c.count_of-m.ensures)
+analyse_accepted-requires c = (is_accepted c.args.file.now c.accept-acceptance.result.answer c.accept-acceptance.ensures.0 (omega arith), c.accept-acceptance.ensures.1, sets_are c.args.file.now c.accept-acceptance.result.answer c.accept-acceptance.ensures.0 (omega arith) c.accept-acceptance.result.states c.accept-acceptance.ensures.2 c.count_of-m.result c.count_of-m.ensures)
 
 pub returns : goal.returns
 returns c = c.analyse_accepted.ensures
