@@ -20,6 +20,14 @@ pub enum Found {
     Whole(u8, usize),
 }
 
+// The fields of one kind: so many, one after the other from a position of some bytes on.
+#[derive(Clone, Copy)]
+pub struct Section<'a> {
+    pub bytes: &'a [u8],
+    pub from: usize,
+    pub count: u8,
+}
+
 // The field that starts at a position.
 pub fn field_at(s: &[u8], at: usize) -> Found
     ensures { result ≡ found_in (front_of (drop at s.now)) }
