@@ -12,6 +12,8 @@ ghost use Rattle.acceptance.specs.Handed.{Handed};
 
 use answers::Answer;
 use declarations::Known;
+use evaluation::{Automaton, Predicates};
+use fields::Section;
 
 // The answer to a sheet. The marks are zero at first, and of no use afterwards.
 pub fn judge_sheet(
@@ -43,15 +45,21 @@ pub fn judge_sheet(
     let counts = known.counts;
     let begins = known.starts;
     match sheet_closure::first_violation(
-        file,
-        begins[declarations::CLAUSES],
-        counts[declarations::CLAUSES],
-        symbols,
-        starts,
-        tables,
-        m,
-        preds,
-        segments,
+        &Section {
+            bytes: file,
+            from: begins[declarations::CLAUSES],
+            count: counts[declarations::CLAUSES],
+        },
+        &Automaton {
+            arities: symbols,
+            starts,
+            tables,
+            m,
+        },
+        &Predicates {
+            arities: preds,
+            segments,
+        },
         marks,
     ) {
         Some(c) => answers::refusal(meaning::SHEET_NOT_CLOSED, c),
