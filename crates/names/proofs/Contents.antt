@@ -1,14 +1,7 @@
 -- When the content of a field is a name and a production, by its length, its first bytes and the bytes after them. Assumes nothing.
-use Rattle.meaning.proofs.Prelude.{ℕ, ◌≤◌, ◌-◌, ◌<◌, ◌≡◌, refl, ◌∙◌, ◌&&◌, List, [], ◌∷◌, ltb, length, get_or, drop, sub-zero}
+use Rattle.meaning.proofs.Prelude.{ℕ, ◌≤◌, ◌-◌, ◌<◌, ◌≡◌, ◌∙◌, ◌&&◌, List, [], ◌∷◌, ltb, length, get_or, drop, sub-zero}
 use Rattle.meaning.proofs.Prelude.{suc-sub-suc, arith, eq-eqb, le-leb, lt-ltb}
-use Rattle.std.specs.List.{list_all}
-use Rattle.meaning.proofs.Prelude.{ap, Bool}
 use Rattle.meaning.proofs.Definitions.{all_of, most_name, name_byte, is_name, declared, is_production}
-
--- every member passes, as the library's test of it says
-pub all_of_list : (f : ℕ → Bool) (l : List ℕ) → list_all f l ≡ all_of f l
-all_of_list f [] = refl
-all_of_list f (x ∷ l) = ap (λ (b : Bool). f x && b) (all_of_list f l)
 
 -- a name: its length, and then each of its bytes
 pub name_all : (s : List ℕ) → 1 ≤ length s → length s ≤ most_name → is_name s ≡ all_of name_byte s
