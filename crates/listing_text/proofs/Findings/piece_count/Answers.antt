@@ -1,10 +1,10 @@
--- `listing_text::piece_count` meets its contract. Assumes nothing.
+-- `listing_text::Findings::piece_count` meets its contract. Assumes nothing.
 use Rattle.meaning.proofs.Prelude.{ap, length, arith}
 use Rattle.meaning.proofs.Calls.{verdicts-length}
 use Rattle.listing_text.proofs.Numbers.{pieces_are}
 use Rattle.parser.proofs.Limits.{accepted-few}
 use Rattle.listing_text.proofs.Found.{marks-few}
-use Rattle.listing_text.proofs.piece_count.Goals as goal
+use Rattle.listing_text.proofs.Findings.piece_count.Goals as goal
 
 pub returns : goal.returns
 returns c = λ file r. omega (arith, pieces_are file, ap length r.states_are_lem, ap length r.marks_are_lem, ap length r.verdicts_are_lem, verdicts-length file)
