@@ -40,11 +40,11 @@ put_type-next-requires c = let a = c.args in
 pub loop-t-preserved : goal.loop-t-preserved
 loop-t-preserved c = let a = c.args in
     let l = c.loop-t in (
-      left_next a.out.now a.at (held_names a.state 0 (rules_of a.self.now.file.now).types) l.out l.next (held_name a.state l.t c.nth_content-name.result.now)
-          (held_names a.state (l.t + 1) (drop (l.t + 1) (rules_of a.self.now.file.now).types))
-          (next-name a.self.now.file.now c.requires.file_value.0 a.self.now.known.now c.requires.file_value.1 a.state l.t c.from.result c.nth_content-name.result.now
-          (omega (arith, types_known a.self.now.file.now c.requires.file_value.0 a.self.now.known.now c.requires.file_value.1)) c.from.ensures c.nth_content-name.ensures)
-          l.invariant c.put_type-next.ensures
+    left_next a.out.now a.at (held_names a.state 0 (rules_of a.self.now.file.now).types) l.out l.next (held_name a.state l.t c.nth_content-name.result.now)
+    (held_names a.state (l.t + 1) (drop (l.t + 1) (rules_of a.self.now.file.now).types))
+    (next-name a.self.now.file.now c.requires.file_value.0 a.self.now.known.now c.requires.file_value.1 a.state l.t c.from.result c.nth_content-name.result.now
+    (omega (arith, types_known a.self.now.file.now c.requires.file_value.0 a.self.now.known.now c.requires.file_value.1)) c.from.ensures c.nth_content-name.ensures)
+    l.invariant c.put_type-next.ensures
     )
 
 pub returns : goal.returns
