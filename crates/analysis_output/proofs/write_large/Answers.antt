@@ -5,4 +5,4 @@ use Rattle.analysis_output.proofs.write_large.Goals as goal
 
 pub write_both-requires : goal.write_both-requires
 write_both-requires c = let p = c.requires in
-    record { handed = (p.0, p.1, p.2, p.3); engine_buffers = lent_empty c.args.known c.args.predicates.now.arities.now 64 16 65536 4096 27744 13872 (few-clauses p.0) (few-preds p.0) (lit≤ tt, lit≤ tt, lit≤ tt, lit≤ tt) }
+    record { handed = (p.0, p.1, p.2, p.3); engine_buffers = lent_empty c.args.known c.args.preds.now 64 16 65536 4096 27744 13872 (few-clauses p.0) (few-preds p.0) (lit≤ tt, lit≤ tt, lit≤ tt, lit≤ tt) }

@@ -5,4 +5,4 @@ use Rattle.analysis_output.proofs.write_small.Goals as goal
 
 pub write_both-requires : goal.write_both-requires
 write_both-requires c = let p = c.requires in
-    record { handed = (p.0, p.1, p.2, p.3); engine_buffers = lent_empty c.args.known c.args.predicates.now.arities.now 16 5 16384 1024 8670 4335 p.4 p.5 (lit≤ tt, lit≤ tt, lit≤ tt, lit≤ tt) }
+    record { handed = (p.0, p.1, p.2, p.3); engine_buffers = lent_empty c.args.known c.args.preds.now 16 5 16384 1024 8670 4335 p.4 p.5 (lit≤ tt, lit≤ tt, lit≤ tt, lit≤ tt) }
