@@ -1,18 +1,11 @@
 -- Contents read one after the other, their values written to the front of a buffer. Assumes nothing.
-use Rattle.meaning.proofs.Prelude.{ℕ, ◌+◌, ◌≤◌, ◌-◌, ◌<◌, suc, ◌≡◌, refl, sym, Bool, true, false, ap, ◌∙◌, ap₂, List, [], ◌∷◌, map, ◌++◌, length}
+use Rattle.meaning.proofs.Prelude.{ℕ, ◌+◌, ◌≤◌, ◌-◌, ◌<◌, suc, ◌≡◌, sym, ap, ◌∙◌, ap₂, List, [], ◌∷◌, map, ◌++◌, length}
 use Rattle.meaning.proofs.Prelude.{length-map, get_or, drop, set, length-drop, drop-cons}
 use Rattle.meaning.proofs.Prelude.{add-one, arith}
-use mir.Val.{bool_byte}
-use Rattle.meaning.specs.Types.{bit}
 use Rattle.meaning.specs.Fields.{front_of}
 use Rattle.fields.specs.Found.{content_in, next_in, contents_from}
 use Rattle.fields.proofs.Nth.{contents-step}
 use Rattle.byte_runs.proofs.Written.{front, front-next, front_all, get_or_mapped}
-
--- the library's number of a Bool
-pub byte-is : (b : Bool) → bool_byte b ≡ bit b
-byte-is true = refl
-byte-is false = refl
 
 -- With i of the contents read, the others stand from a position on, and their values are written.
 module _ (file : List ℕ) (count : ℕ) (contents : List (List ℕ)) (value : List ℕ → ℕ) (before : List ℕ) where

@@ -10,5 +10,5 @@ write_open-requires c = let file = c.args.file.now in
     let made = c.write_model-counted in
     let done = made.ensures.model.0 in record {
       handed = (c.requires.handed.0, c.requires.handed.1, done ∙ (sym (written_again (model_of file) c.args.marks.now) ∙ ap (written (model_of file)) (sym done)), c.requires.handed.3);
-      all_shown = (made.ensures.shown, subst (λ (n : ℕ). length c.args.predicates.now.arities.now * both_masks ≤ n) (sym made.auto.masks) c.requires.engine_buffers.masked);
+      all_shown = (made.ensures.shown, subst (λ (n : ℕ). length c.args.preds.now * both_masks ≤ n) (sym made.auto.masks) c.requires.engine_buffers.masked);
     }

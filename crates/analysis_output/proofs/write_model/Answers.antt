@@ -58,9 +58,9 @@ returns c = let h = c.requires.0 in
       model = (
         ap₂ (λ (l : List ℕ) (k : ℕ). l ++ drop k c.args.marks.now) is (size.ensures ∙ handed_size h),
         c.count_all-atoms.ensures
-            ∙ (ap (λ (l : List ℕ). length (marked_atoms c.args.automaton.now.m c.args.predicates.now.arities.now l)) (part-is part (drop size.result c.args.marks.now) size.result (part-long c.requires.0 c.run-rounds.ensures.model c.cells_of-size.ensures) ∙ is)
+            ∙ (ap (λ (l : List ℕ). length (marked_atoms c.args.m c.args.preds.now l)) (part-is part (drop size.result c.args.marks.now) size.result (part-long c.requires.0 c.run-rounds.ensures.model c.cells_of-size.ensures) ∙ is)
             ∙ handed_atoms h),
         run.ensures.rounds ∙ handed_rounds h,
       );
-      shown = subst (λ (l : List ℕ). AllShown c.args.automaton.now.m c.args.predicates.now.arities.now l run.new.masks) is run.ensures.shown;
+      shown = subst (λ (l : List ℕ). AllShown c.args.m c.args.preds.now l run.new.masks) is run.ensures.shown;
     }
