@@ -1,6 +1,7 @@
 -- After an analysis that hands back 0: what the sheet is put from, and that it gives the file's sheet. Assumes nothing.
 use Rattle.meaning.proofs.Prelude.{ℕ, ◌≤◌, ◌≡◌, sym, ap, ◌∙◌, subst, List, length, get_or, take, length-take-le}
 use Rattle.meaning.proofs.Definitions.{All, cells, states_of, model_of, atoms_of, Buffers, analysed}
+use Rattle.std.specs.Prelude.{Option}
 use Rattle.declarations.specs.declared.Known.{Known}
 use Rattle.declarations.specs.Known.{Knows, fields_read}
 use Rattle.parser.proofs.Limits.{predicates_known, states-some}
@@ -10,7 +11,6 @@ use Rattle.analysis.specs.declared.Analysis.{Analysis}
 use Rattle.analysis.specs.Given.{given, Filled}
 use Rattle.analysis.proofs.Done.{accepted-is, holds-states, holds-marks, holds-verdicts}
 use Rattle.analysis.proofs.Shown.{shown-few, preds_fit, preds-few, preds-narrow, marks-size}
-use Rattle.sheet_writer.specs.declared.Fit.{Fit}
 use Rattle.sheet_writer.specs.Fits.{sheet_of, if_room, fit_of}
 use Rattle.certificate.proofs.Ends.{sheet_for}
 
@@ -71,7 +71,7 @@ module _ {file : List ℕ} {known : Known} {found : List ℕ} {before after : Bu
           let marks = holds-first (model_of file) after.marks filled.marks_are (marks-size filled h.knows e cut) in
           λ i. sheet_of (h.states i) (arities i) (marks i)
 
-      pub put_is : (sheet : List ℕ) {r : Fit} {sheet' : List ℕ}
+      pub put_is : (sheet : List ℕ) {r : Option ℕ} {sheet' : List ℕ}
           → (r ≡ fit_of (sheet_of found preds (take size after.marks)) sheet) × (sheet' ≡ if_room (sheet_of found preds (take size after.marks)) sheet)
           → (r ≡ fit_of (sheet_for file) sheet) × (sheet' ≡ if_room (sheet_for file) sheet)
       put_is sheet w = (w.0 ∙ ap (λ (l : List ℕ). fit_of l sheet) sheet-is, w.1 ∙ ap (λ (l : List ℕ). if_room l sheet) sheet-is)

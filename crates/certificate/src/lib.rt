@@ -11,7 +11,6 @@ ghost use Rattle.certificate.specs.Given.{wrote, nothing_written};
 
 use answers::Answer;
 use declarations::Known;
-use sheet_writer::Fit;
 
 // Number and place, and the counts of states, atoms, rounds and the sheet's bytes: each 0 with a refusal.
 #[derive(Clone, Copy)]
@@ -56,17 +55,17 @@ fn write_accepted(
     }
     let counts = known.counts;
     let predicates = known.predicates;
-    let p = byte_runs::wide(counts[declarations::PREDICATES]);
+    let p = usize::from(counts[declarations::PREDICATES]);
     let size = cells::cells_of(&predicates[..p], found.len());
     match sheet_writer::put_sheet(sheet, found, &marks[..size], &predicates[..p]) {
-        Fit::Whole(n) => Writing {
+        Some(n) => Writing {
             answer,
             states: r.states,
             atoms: r.atoms,
             rounds: r.rounds,
             bytes: n,
         },
-        Fit::TooShort => refused_writing(answers::refusal(meaning::SHEET_BUFFER_TOO_SHORT, 0)),
+        None => refused_writing(answers::refusal(meaning::SHEET_BUFFER_TOO_SHORT, 0)),
     }
 }
 

@@ -1,15 +1,5 @@
 -- `certificate::write` meets its contract. Assumes nothing.
-use Rattle.meaning.proofs.Prelude.{ℕ, List, ◌≤◌, ◌≡◌, sym, ap, ◌∙◌, length, take, length-take-le, arith}
-use Rattle.meaning.proofs.Definitions.{most_states, accepted, file_answer, states_of}
-use Rattle.meaning.proofs.Answers.{zero-accepted}
-use Rattle.meaning.specs.Refusals as meant
-use Rattle.answers.specs.declared.Answer.{Answer}
-use Rattle.answers.specs.Answered.{answered}
-use Rattle.states.specs.declared.States.{States}
-use Rattle.acceptance.specs.Accepted.{states_given}
-use Rattle.states.specs.Packed.{packed, count_of}
-use Rattle.states.proofs.Packed.{count_fits, counted_sets}
-use Rattle.parser.proofs.Limits.{accepted-read, accepted-few}
+use Rattle.meaning.proofs.Prelude.{sym, length-take-le, arith}
 use Rattle.acceptance.proofs.Kept.{is_accepted, sets_fit, sets_are}
 use Rattle.certificate.proofs.Ends.{file_refused}
 use Rattle.certificate.proofs.write.Goals as goal

@@ -25,46 +25,46 @@ returns-then-answer-ne0 c = let y = c.analyse_accepted-r in
 
 pub slice_bounds-put_sheet-end : goal.slice_bounds-put_sheet-end
 slice_bounds-put_sheet-end c = let y = c.analyse_accepted-r in
-    marks_fit (ready c.args.file.now c.args.known c.args.found.now (record { states = c.args.states.now; tables = c.args.tables.now; marks = c.args.marks.now; verdicts = c.args.verdicts.now }) (record { states = y.new.states; tables = y.new.tables; marks = y.new.marks; verdicts = y.new.verdicts }) y.result c.requires.1 c.requires.2 y.ensures (omega arith)) c.wide-p.ensures.0 c.cells_of-size.ensures
+    marks_fit (ready c.args.file.now c.args.known c.args.found.now (record { states = c.args.states.now; tables = c.args.tables.now; marks = c.args.marks.now; verdicts = c.args.verdicts.now }) (record { states = y.new.states; tables = y.new.tables; marks = y.new.marks; verdicts = y.new.verdicts }) y.result c.requires.1 c.requires.2 y.ensures (omega arith)) c.from-p.ensures c.cells_of-size.ensures
 
 pub slice_bounds-put_sheet-end-2 : goal.slice_bounds-put_sheet-end-2
 slice_bounds-put_sheet-end-2 c = let y = c.analyse_accepted-r in
-    marks-long (ready c.args.file.now c.args.known c.args.found.now (record { states = c.args.states.now; tables = c.args.tables.now; marks = c.args.marks.now; verdicts = c.args.verdicts.now }) (record { states = y.new.states; tables = y.new.tables; marks = y.new.marks; verdicts = y.new.verdicts }) y.result c.requires.1 c.requires.2 y.ensures (omega arith)) c.wide-p.ensures.0 c.cells_of-size.ensures
+    marks-long (ready c.args.file.now c.args.known c.args.found.now (record { states = c.args.states.now; tables = c.args.tables.now; marks = c.args.marks.now; verdicts = c.args.verdicts.now }) (record { states = y.new.states; tables = y.new.tables; marks = y.new.marks; verdicts = y.new.verdicts }) y.result c.requires.1 c.requires.2 y.ensures (omega arith)) c.from-p.ensures c.cells_of-size.ensures
 
 pub slice_bounds-predicates-end-2 : goal.slice_bounds-predicates-end-2
 slice_bounds-predicates-end-2 c = let y = c.analyse_accepted-r in
-    arities_fit (ready c.args.file.now c.args.known c.args.found.now (record { states = c.args.states.now; tables = c.args.tables.now; marks = c.args.marks.now; verdicts = c.args.verdicts.now }) (record { states = y.new.states; tables = y.new.tables; marks = y.new.marks; verdicts = y.new.verdicts }) y.result c.requires.1 c.requires.2 y.ensures (omega arith)) c.wide-p.ensures.0
+    arities_fit (ready c.args.file.now c.args.known c.args.found.now (record { states = c.args.states.now; tables = c.args.tables.now; marks = c.args.marks.now; verdicts = c.args.verdicts.now }) (record { states = y.new.states; tables = y.new.tables; marks = y.new.marks; verdicts = y.new.verdicts }) y.result c.requires.1 c.requires.2 y.ensures (omega arith)) c.from-p.ensures
 
 pub slice_bounds-put_sheet-end-3 : goal.slice_bounds-put_sheet-end-3
 slice_bounds-put_sheet-end-3 c = let y = c.analyse_accepted-r in
-    arities-long (ready c.args.file.now c.args.known c.args.found.now (record { states = c.args.states.now; tables = c.args.tables.now; marks = c.args.marks.now; verdicts = c.args.verdicts.now }) (record { states = y.new.states; tables = y.new.tables; marks = y.new.marks; verdicts = y.new.verdicts }) y.result c.requires.1 c.requires.2 y.ensures (omega arith)) c.wide-p.ensures.0
+    arities-long (ready c.args.file.now c.args.known c.args.found.now (record { states = c.args.states.now; tables = c.args.tables.now; marks = c.args.marks.now; verdicts = c.args.verdicts.now }) (record { states = y.new.states; tables = y.new.tables; marks = y.new.marks; verdicts = y.new.verdicts }) y.result c.requires.1 c.requires.2 y.ensures (omega arith)) c.from-p.ensures
 
 pub put_sheet-requires : goal.put_sheet-requires
 put_sheet-requires c = let y = c.analyse_accepted-r in
-    sheet-asked (ready c.args.file.now c.args.known c.args.found.now (record { states = c.args.states.now; tables = c.args.tables.now; marks = c.args.marks.now; verdicts = c.args.verdicts.now }) (record { states = y.new.states; tables = y.new.tables; marks = y.new.marks; verdicts = y.new.verdicts }) y.result c.requires.1 c.requires.2 y.ensures (omega arith)) c.wide-p.ensures.0 c.cells_of-size.ensures
+    sheet-asked (ready c.args.file.now c.args.known c.args.found.now (record { states = c.args.states.now; tables = c.args.tables.now; marks = c.args.marks.now; verdicts = c.args.verdicts.now }) (record { states = y.new.states; tables = y.new.tables; marks = y.new.marks; verdicts = y.new.verdicts }) y.result c.requires.1 c.requires.2 y.ensures (omega arith)) c.from-p.ensures c.cells_of-size.ensures
 
-pub returns-in-Whole : goal.returns-in-Whole
-returns-in-Whole c = let y = c.analyse_accepted-r in
+pub returns-in-Some : goal.returns-in-Some
+returns-in-Some c = let y = c.analyse_accepted-r in
     let h = ready c.args.file.now c.args.known c.args.found.now (record { states = c.args.states.now; tables = c.args.tables.now; marks = c.args.marks.now; verdicts = c.args.verdicts.now }) (record { states = y.new.states; tables = y.new.tables; marks = y.new.marks; verdicts = y.new.verdicts }) y.result c.requires.1 c.requires.2 y.ensures (omega arith) in
-    let put = put_is h c.wide-p.ensures.0 c.cells_of-size.ensures c.args.sheet.now c.put_sheet.ensures in
-    let whole = fit_whole (sheet_for c.args.file.now) c.args.sheet.now put.0 c.in-Whole.is in
+    let put = put_is h c.from-p.ensures c.cells_of-size.ensures c.args.sheet.now c.put_sheet.ensures in
+    let whole = fit_whole (sheet_for c.args.file.now) c.args.sheet.now put.0 c.in-Some.is in
     done c.args.file.now (record { states = c.args.states.now; tables = c.args.tables.now; marks = c.args.marks.now; verdicts = c.args.verdicts.now }) c.args.sheet.now h.is h.zero whole.0 put.1 (omega (arith, whole))
 
-pub returns-in-TooShort : goal.returns-in-TooShort
-returns-in-TooShort c = let y = c.analyse_accepted-r in
+pub returns-in-None : goal.returns-in-None
+returns-in-None c = let y = c.analyse_accepted-r in
     let h = ready c.args.file.now c.args.known c.args.found.now (record { states = c.args.states.now; tables = c.args.tables.now; marks = c.args.marks.now; verdicts = c.args.verdicts.now }) (record { states = y.new.states; tables = y.new.tables; marks = y.new.marks; verdicts = y.new.verdicts }) y.result c.requires.1 c.requires.2 y.ensures (omega arith) in
-    let put = put_is h c.wide-p.ensures.0 c.cells_of-size.ensures c.args.sheet.now c.put_sheet.ensures in
-    let short = fit_short (sheet_for c.args.file.now) c.args.sheet.now put.0 c.in-TooShort.is in
-    sheet-short c.args.file.now (record { states = c.args.states.now; tables = c.args.tables.now; marks = c.args.marks.now; verdicts = c.args.verdicts.now }) c.args.sheet.now h.is h.zero refl put.1 c.refused_writing-in-TooShort.ensures c.refusal.ensures short
+    let put = put_is h c.from-p.ensures c.cells_of-size.ensures c.args.sheet.now c.put_sheet.ensures in
+    let short = fit_short (sheet_for c.args.file.now) c.args.sheet.now put.0 c.in-None.is in
+    sheet-short c.args.file.now (record { states = c.args.states.now; tables = c.args.tables.now; marks = c.args.marks.now; verdicts = c.args.verdicts.now }) c.args.sheet.now h.is h.zero refl put.1 c.refused_writing-in-None.ensures c.refusal.ensures short
 
 pub slice_bounds-predicates-end : goal.slice_bounds-predicates-end
 slice_bounds-predicates-end c = let y = c.analyse_accepted-r in
-    arities_fit (ready c.args.file.now c.args.known c.args.found.now (record { states = c.args.states.now; tables = c.args.tables.now; marks = c.args.marks.now; verdicts = c.args.verdicts.now }) (record { states = y.new.states; tables = y.new.tables; marks = y.new.marks; verdicts = y.new.verdicts }) y.result c.requires.1 c.requires.2 y.ensures (omega arith)) c.wide-p.ensures.0
+    arities_fit (ready c.args.file.now c.args.known c.args.found.now (record { states = c.args.states.now; tables = c.args.tables.now; marks = c.args.marks.now; verdicts = c.args.verdicts.now }) (record { states = y.new.states; tables = y.new.tables; marks = y.new.marks; verdicts = y.new.verdicts }) y.result c.requires.1 c.requires.2 y.ensures (omega arith)) c.from-p.ensures
 
 pub slice_bounds-cells_of-end : goal.slice_bounds-cells_of-end
 slice_bounds-cells_of-end c = let y = c.analyse_accepted-r in
-    arities-long (ready c.args.file.now c.args.known c.args.found.now (record { states = c.args.states.now; tables = c.args.tables.now; marks = c.args.marks.now; verdicts = c.args.verdicts.now }) (record { states = y.new.states; tables = y.new.tables; marks = y.new.marks; verdicts = y.new.verdicts }) y.result c.requires.1 c.requires.2 y.ensures (omega arith)) c.wide-p.ensures.0
+    arities-long (ready c.args.file.now c.args.known c.args.found.now (record { states = c.args.states.now; tables = c.args.tables.now; marks = c.args.marks.now; verdicts = c.args.verdicts.now }) (record { states = y.new.states; tables = y.new.tables; marks = y.new.marks; verdicts = y.new.verdicts }) y.result c.requires.1 c.requires.2 y.ensures (omega arith)) c.from-p.ensures
 
 pub cells_of-size-requires : goal.cells_of-size-requires
 cells_of-size-requires c = let y = c.analyse_accepted-r in
-    cells-asked (ready c.args.file.now c.args.known c.args.found.now (record { states = c.args.states.now; tables = c.args.tables.now; marks = c.args.marks.now; verdicts = c.args.verdicts.now }) (record { states = y.new.states; tables = y.new.tables; marks = y.new.marks; verdicts = y.new.verdicts }) y.result c.requires.1 c.requires.2 y.ensures (omega arith)) c.wide-p.ensures.0
+    cells-asked (ready c.args.file.now c.args.known c.args.found.now (record { states = c.args.states.now; tables = c.args.tables.now; marks = c.args.marks.now; verdicts = c.args.verdicts.now }) (record { states = y.new.states; tables = y.new.tables; marks = y.new.marks; verdicts = y.new.verdicts }) y.result c.requires.1 c.requires.2 y.ensures (omega arith)) c.from-p.ensures
