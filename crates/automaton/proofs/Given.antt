@@ -280,29 +280,29 @@ module _
     {n : ℕ} (all : n ≡ cells (length states) arities)
     {zeros : List ℕ} (emptied : ((y : ℕ) → y ≡ 0 → y ≡ 0) → zeros ≡ replicate (length (take n sets)) 0)
   where
-  begun_is : zeros ++ drop n sets ≡ cleared sets (cells (length states) arities)
-  unfolding cleared
-  begun_is =
-      ap (λ (l : List ℕ). l ++ drop n sets)
-      (emptied (λ y e. e) ∙ ap (λ (k : ℕ). replicate k 0) (length-take-le n sets (omega (arith, all, fill.room))))
-      ∙ ap (cleared sets) all
+    begun_is : zeros ++ drop n sets ≡ cleared sets (cells (length states) arities)
+    unfolding cleared
+    begun_is =
+        ap (λ (l : List ℕ). l ++ drop n sets)
+        (emptied (λ y e. e) ∙ ap (λ (k : ℕ). replicate k 0) (length-take-le n sets (omega (arith, all, fill.room))))
+        ∙ ap (cleared sets) all
 
-  length_begun : length (zeros ++ drop n sets) ≡ length sets
-  length_begun = ap (λ (l : List ℕ). length l) begun_is ∙ length-cleared sets (cells (length states) arities) fill.room
+    length_begun : length (zeros ++ drop n sets) ≡ length sets
+    length_begun = ap (λ (l : List ℕ). length l) begun_is ∙ length-cleared sets (cells (length states) arities) fill.room
 
-  -- a buffer as long as that one serves as well
-  pub still_fillable : {l : List ℕ} → length l ≡ length (zeros ++ drop n sets) → Fillable states arities l
-  still_fillable same = fillable_same fill (same ∙ length_begun)
+    -- a buffer as long as that one serves as well
+    pub still_fillable : {l : List ℕ} → length l ≡ length (zeros ++ drop n sets) → Fillable states arities l
+    still_fillable same = fillable_same fill (same ∙ length_begun)
 
-  pub filled : (file : List ℕ) (types from count left at : ℕ) {l : List ℕ}
-      → types ≤ 16
-      → AreProductions types arities count (contents_from count (drop from file))
-      → left ≤ 0
-      → mark_from states arities file left at l ≡ mark_from states arities file count from (zeros ++ drop n sets)
-      → l ≡ given_sets (map production_of (contents_from count (drop from file))) types states arities ++ drop (cells (length states) arities) sets
-  unfolding mark_from
-  filled file types from count left at {l} low are none_left e =
-      sym (from_none states arities file left at l none_left)
-      ∙ e
-      ∙ ap (mark_all states arities (map production_of (contents_from count (drop from file)))) begun_is
-      ∙ end-given states arities types low (map production_of (contents_from count (drop from file))) are.well sets fill.room
+    pub filled : (file : List ℕ) (types from count left at : ℕ) {l : List ℕ}
+        → types ≤ 16
+        → AreProductions types arities count (contents_from count (drop from file))
+        → left ≤ 0
+        → mark_from states arities file left at l ≡ mark_from states arities file count from (zeros ++ drop n sets)
+        → l ≡ given_sets (map production_of (contents_from count (drop from file))) types states arities ++ drop (cells (length states) arities) sets
+    unfolding mark_from
+    filled file types from count left at {l} low are none_left e =
+        sym (from_none states arities file left at l none_left)
+        ∙ e
+        ∙ ap (mark_all states arities (map production_of (contents_from count (drop from file)))) begun_is
+        ∙ end-given states arities types low (map production_of (contents_from count (drop from file))) are.well sets fill.room

@@ -90,7 +90,14 @@ fn mark_production(sets: &mut [u16], states: &[u16], arities: &[u8], content: &[
 {
     let start = cells::start_of(arities, states.len(), usize::from(content[1]));
     let target = TypeSet::none().with(content[0]);
-    mark_rows(sets, start, states, &content[meaning::ARGUMENTS..], 0, target);
+    mark_rows(
+        sets,
+        start,
+        states,
+        &content[meaning::ARGUMENTS..],
+        0,
+        target,
+    );
 }
 
 // The sets that the symbols give over all rows of some sets, symbol after symbol: one pass over the productions.

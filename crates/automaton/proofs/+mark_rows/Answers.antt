@@ -1,5 +1,5 @@
 -- The goals that are not found.
-use Rattle.meaning.proofs.Prelude.{ℕ, ◌+◌, ◌*◌, ◌-◌, ap, ◌∙◌, List, length, length-drop, get_or, take, drop, arith}
+use Rattle.meaning.proofs.Prelude.{ap, ◌∙◌, length, length-drop, get_or, drop, arith}
 use Rattle.meaning.proofs.Loops.{part-rest}
 use Rattle.automaton.proofs.Marking.{mark-end, to-zero, to-more, to_same, to_all, length-mark_to, end-inside, asked_low, deeper, next-inside}
 use Rattle.automaton.proofs.+mark_rows.Goals as goal

@@ -1,6 +1,6 @@
 -- The goals that are not found.
 use Rattle.meaning.proofs.Prelude.{◌+◌, ◌-◌, refl, ◌∙◌, arith}
-use Rattle.automaton.proofs.Turns.{length-mark_production, never_none, field_inside, first-long, first-well, rest_are, from_next}
+use Rattle.automaton.proofs.Turns.{never_none, field_inside, first-long, first-well, rest_are, from_next}
 use Rattle.automaton.proofs.Given.{still_fillable, filled}
 use Rattle.automaton.proofs.fill.Goals as goal
 

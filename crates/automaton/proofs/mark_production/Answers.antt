@@ -1,8 +1,7 @@
 -- `automaton::mark_production` meets its contract: the segment of the symbol starts where it should, and has room for all rows. Assumes nothing.
-use Rattle.meaning.proofs.Prelude.{ℕ, List, sym, ap, ◌∙◌, get_or}
+use Rattle.meaning.proofs.Prelude.{ℕ, ap, ◌∙◌, get_or}
 use Rattle.meaning.proofs.Loops.{part-rest}
 use Rattle.automaton.specs.Sets.{added}
-use Rattle.automaton.specs.Marking.{mark_rows}
 use Rattle.automaton.proofs.Turns.{production_markable, production-marked}
 use Rattle.automaton.proofs.mark_production.Goals as goal
 
