@@ -29,10 +29,7 @@ pub fn long_enough(
     requires { (m ≤ 16) × (length symbols.now ≤ 32) × All (λ n. n ≤ 4) symbols.now × (length preds.now ≤ 32) × All (λ n. n ≤ 4) preds.now }
     ensures { result ≡ (leb m states && leb (cells m symbols.now) tables && leb (cells m preds.now) marks && leb queries verdicts) }
 {
-    (m <= states)
-        & (cells::cells_of(symbols, m) <= tables)
-        & (cells::cells_of(preds, m) <= marks)
-        & (byte_runs::wide(queries) <= verdicts)
+    m <= states && lent_enough(symbols, preds, m, tables, marks) && usize::from(queries) <= verdicts
 }
 
 // Whether each buffer of a sheet check is long enough.
@@ -40,5 +37,5 @@ pub fn lent_enough(symbols: &[u8], preds: &[u8], m: usize, tables: usize, marks:
     requires { (m ≤ 16) × (length symbols.now ≤ 32) × All (λ n. n ≤ 4) symbols.now × (length preds.now ≤ 32) × All (λ n. n ≤ 4) preds.now }
     ensures { result ≡ (leb (cells m symbols.now) tables && leb (cells m preds.now) marks) }
 {
-    (cells::cells_of(symbols, m) <= tables) & (cells::cells_of(preds, m) <= marks)
+    cells::cells_of(symbols, m) <= tables && cells::cells_of(preds, m) <= marks
 }

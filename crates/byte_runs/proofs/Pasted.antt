@@ -1,9 +1,10 @@
 -- Elements pasted into a list from a position on: the length, the parts before, at and after them, one paste after another, and a store as
 -- a paste. Assumes nothing.
-use Rattle.meaning.proofs.Prelude.{ℕ, ◌+◌, ◌≤◌, ◌<◌, ◌≡◌, sym, ap, ◌∙◌, List, [], ◌∷◌, ◌++◌, append_assoc, length, length-append, length-take}
+use Rattle.meaning.proofs.Prelude.{ℕ, ◌+◌, ◌-◌, ◌≤◌, ◌<◌, ◌≡◌, sym, ap, ◌∙◌, List, [], ◌∷◌, ◌++◌, append_assoc, length, length-append, length-take}
 use Rattle.meaning.proofs.Prelude.{take, drop, take-append-drop, set, length-drop, length-take-le, drop_at, take_at, drop-drop, take-set-le}
-use Rattle.meaning.proofs.Prelude.{set_split, add-zero, add_assoc, add-one, arith, get_or, take-suc}
+use Rattle.meaning.proofs.Prelude.{set_split, add-zero, add_assoc, add-one, arith}
 use Rattle.meaning.proofs.Lists.{drop-set}
+use borrow.Rule.Slice.PartMut.{put_mid}
 use Rattle.byte_runs.specs.Pasted.{pasted}
 
 -- nothing pasted
@@ -66,11 +67,10 @@ pasted-last out at bytes b fits =
     ∙ ap (λ (l : List ℕ). take at out ++ (bytes ++ l)) (drop-set out j b fits)
     ∙ rw (length-append bytes (b ∷ []), append_assoc bytes (b ∷ []), ← add_assoc at (length bytes) 1, add-one (at + length bytes))
 
--- the next byte stored is one byte more pasted
-pub bytes_next : (out : List ℕ) (at : ℕ) (bytes : List ℕ) (i : ℕ) → at + length bytes ≤ length out → i < length bytes
-    → set (pasted out at (take i bytes)) (at + i) (get_or bytes i 0) ≡ pasted out at (take (i + 1) bytes)
-bytes_next out at bytes i fits more =
-    let e : length (take i bytes) ≡ i = length-take-le i bytes (omega arith) in
-    rw (add-one i, take-suc bytes i 0)
-    (ap (λ (k : ℕ). set (pasted out at (take i bytes)) (at + k) (get_or bytes i 0)) (sym e)
-    ∙ pasted-more out at (take i bytes) (get_or bytes i 0) (omega arith))
+-- bytes written to a part of their length
+pub pasted-part : (out : List ℕ) (at : ℕ) (bytes : List ℕ) {part : List ℕ} → part ≡ bytes → put_mid at (at + length bytes - at) out part ≡ pasted out at bytes
+unfolding pasted
+pasted-part out at bytes {part} is =
+    rw (is)
+    (ap (λ (k : ℕ). take at out ++ (bytes ++ drop k (drop at out))) (omega arith)
+    ∙ ap (λ (l : List ℕ). take at out ++ (bytes ++ l)) (drop-drop (length bytes) at out))

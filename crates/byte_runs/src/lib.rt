@@ -36,65 +36,33 @@ pub fn byte(n: usize) -> u8
 pub fn same(a: &[u8], b: &[u8]) -> bool
     ensures { result ≡ same a.now b.now }
 {
-    if a.len() != b.len() {
-        return false;
-    }
-    let mut i = 0;
-    while i < a.len() {
-        if a[i] != b[i] {
-            return false;
-        }
-        i += 1;
-    }
-    true
+    a == b
 }
 
 // Whether a byte is among those of a slice.
 pub fn contains(s: &[u8], b: u8) -> bool
     ensures { result ≡ any_of (λ x. eqb x b) s.now }
 {
-    let mut i = 0;
-    while i < s.len() {
-        if s[i] == b {
-            return true;
-        }
-        i += 1;
-    }
-    false
+    s.contains(&b)
 }
 
 // Whether each byte of a slice is below m.
 pub fn all_below(s: &[u8], m: usize) -> bool
     ensures { result ≡ all_of (λ x. ltb x m) s.now }
 {
-    let mut i = 0;
-    while i < s.len() {
-        if m <= wide(s[i]) {
-            return false;
-        }
-        i += 1;
-    }
-    true
+    s.iter().all(|&x| usize::from(x) < m)
 }
 
 pub fn zero(part: &mut [u8])
     ensures { part.new ≡ replicate (length part.old) 0 }
 {
-    let mut i = 0;
-    while i < part.len() {
-        part[i] = 0;
-        i += 1;
-    }
+    part.fill(0);
 }
 
 pub fn zero_words(part: &mut [u16])
     ensures { part.new ≡ replicate (length part.old) 0 }
 {
-    let mut i = 0;
-    while i < part.len() {
-        part[i] = 0;
-        i += 1;
-    }
+    part.fill(0);
 }
 
 // Copies words to the front of a buffer.
@@ -102,11 +70,7 @@ pub fn copy_words(to: &mut [u16], from: &[u16])
     requires { length from.now ≤ length to.old }
     ensures { to.new ≡ written from.now to.old }
 {
-    let mut i = 0;
-    while i < from.len() {
-        to[i] = from[i];
-        i += 1;
-    }
+    to[..from.len()].copy_from_slice(from);
 }
 
 // Copies bytes into a buffer from a position on, and answers the position past them.
@@ -114,12 +78,9 @@ pub fn put_bytes(out: &mut [u8], at: usize, bytes: &[u8]) -> usize
     requires { at + length bytes.now ≤ length out.old }
     ensures { (out.new ≡ pasted out.old at bytes.now) × (result ≡ at + length bytes.now) }
 {
-    let mut i = 0;
-    while i < bytes.len() {
-        out[at + i] = bytes[i];
-        i += 1;
-    }
-    at + i
+    let end = at + bytes.len();
+    out[at..end].copy_from_slice(bytes);
+    end
 }
 
 // The same for one byte.
@@ -127,7 +88,6 @@ pub fn put_byte(out: &mut [u8], at: usize, b: u8) -> usize
     requires { at < length out.old }
     ensures { (out.new ≡ pasted out.old at (b ∷ [])) × (result ≡ at + 1) }
 {
-    let next = at + 1;
     out[at] = b;
-    next
+    at + 1
 }

@@ -1,11 +1,11 @@
 -- The content and the end of what stands at a position, and the content of field k from a position on. Assumes nothing.
 use Rattle.meaning.proofs.Prelude.{ℕ, ◌+◌, ◌≤◌, ◌-◌, ◌<◌, zero, suc, ◌≡◌, refl, sym, ap, ◌∙◌, subst, List, [], ◌∷◌, T, length, get_or, take, drop}
-use Rattle.meaning.proofs.Prelude.{arith}
+use Rattle.meaning.proofs.Prelude.{add-one, arith}
 use Rattle.meaning.specs.Fields.{Front, empty, short, front, front_of}
 use Rattle.fields.specs.Found.{found_in, is_whole, content_in, next_in, on_content, contents_from, on_rest, nth_in}
 use Rattle.fields.specs.declared.Found.{Found}
-use Rattle.fields.specs.declared.Found.TheVariants.{End, Cut, Whole}
-use Rattle.fields.proofs.Fronts.{front_rest, front-inside, front-content, found-whole, found-cut, found-end}
+use Rattle.fields.specs.declared.Found.TheVariants.{Whole}
+use Rattle.fields.proofs.Fronts.{front_rest, front-inside, front-content, found-whole}
 
 -- a whole field that was found at a position: it lies inside the bytes, with its content and the next position
 pub record WholeAt (s : List ℕ) (at len : ℕ) : Type 0 where
@@ -30,11 +30,10 @@ pub record NoneAt (at : ℕ) (f : Front) : Type 0 where
   pub next : at ≡ next_in at f
   pub none-whole : T (is_whole f) → ⊥
 
-pub cut_at : (at : ℕ) (g : Front) {f : Found} → f ≡ found_in g → f ≡ Cut → NoneAt at g
-cut_at at g found is = subst (NoneAt at) (sym (found-cut g (sym is ∙ found))) (record { content = refl; next = refl; none-whole = λ w. w })
-
-pub end-at : (at : ℕ) (g : Front) {f : Found} → f ≡ found_in g → f ≡ End → NoneAt at g
-end-at at g found is = subst (NoneAt at) (sym (found-end g (sym is ∙ found))) (record { content = refl; next = refl; none-whole = λ w. w })
+pub none_at : (at : ℕ) (g : Front) {f : Found} → f ≡ found_in g → ((tag len : ℕ) → f ≡ Whole tag len → ⊥) → NoneAt at g
+none_at at empty found none = record { content = refl; next = refl; none-whole = λ w. w }
+none_at at short found none = record { content = refl; next = refl; none-whole = λ w. w }
+none_at at (front tag content rest) found none = absurd (none tag (length content) found)
 
 -- past the end or at a cut field there is no field more
 nth_short : (k : ℕ) (bytes : List ℕ) → front_of bytes ≡ short → nth_in k bytes ≡ []
@@ -55,10 +54,8 @@ nth_suc s at k = go (front_of (drop at s)) refl
     go (front tag content rest) e = ap (nth_in k) (front_rest s at tag content rest e)
 
 -- a turn, and the last place
-pub nth_next : (s : List ℕ) (at left : ℕ) → 0 < left → nth_in left (drop at s) ≡ nth_in (left - 1) (drop (next_in at (front_of (drop at s))) s)
-nth_next s at left h =
-    let one : left ≡ suc (left - 1) = omega arith in
-    ap (λ (n : ℕ). nth_in n (drop at s)) one ∙ nth_suc s at (left - 1)
+pub nth_next : (s : List ℕ) (at left later : ℕ) → left ≡ later + 1 → nth_in left (drop at s) ≡ nth_in later (drop (next_in at (front_of (drop at s))) s)
+nth_next s at left later e = ap (λ (n : ℕ). nth_in n (drop at s)) (e ∙ add-one later) ∙ nth_suc s at later
 
 pub nth_here : (bytes : List ℕ) (left : ℕ) → left ≤ 0 → nth_in left bytes ≡ content_in (front_of bytes)
 nth_here bytes left h =

@@ -9,7 +9,8 @@ ghost use Rattle.fields.specs.Found.{found_in, is_whole, content_in, next_in, nt
 // The bytes of a field before its content: the tag and the length.
 pub const HEADER: usize = 3;
 
-// What stands at a position.
+// What stands at a position. An enum of three, one for each case of the format's own definition (`Front`): as `Result<Option<..>, Cut>` a walk that must
+// tell all three would match `Ok(Some(..))`, `Ok(None)` and `Err(Cut)`, and none hands a cut on by `?`, since each answers it by a number of its own.
 #[derive(Clone, Copy)]
 pub enum Found {
     // No byte is left.
@@ -39,7 +40,7 @@ pub fn field_at(s: &[u8], at: usize) -> Found
     if left < HEADER {
         return Found::Cut;
     }
-    let len = byte_runs::wide(s[at + 1]) * 256 + byte_runs::wide(s[at + 2]);
+    let len = usize::from(s[at + 1]) * 256 + usize::from(s[at + 2]);
     if len <= left - HEADER {
         Found::Whole(s[at], len)
     } else {
@@ -62,22 +63,20 @@ pub fn content_at(s: &[u8], at: usize) -> &[u8]
     ensures result_value { result.now ≡ content_in (front_of (drop at s.now)) }
     ensures ref_ptr_value { T (is_whole (front_of (drop at s.now))) → (result.ref_ptr.0 ≡ s.entry.ref_ptr.0) × (result.ref_ptr.1 ≡ at + 3 + s.entry.ref_ptr.1) }
 {
-    match field_at(s, at) {
-        Found::Whole(_, len) => return content(s, at, len),
-        Found::Cut => return &s[..0],
-        Found::End => return &s[..0],
-    }
+    let Found::Whole(_, len) = field_at(s, at) else {
+        return &s[..0];
+    };
+    content(s, at, len)
 }
 
 // Where the field after the one at a position starts; the position itself where no whole field stands.
 pub fn next_at(s: &[u8], at: usize) -> usize
     ensures { result ≡ next_in at (front_of (drop at s.now)) }
 {
-    match field_at(s, at) {
-        Found::Whole(_, len) => at + HEADER + len,
-        Found::Cut => at,
-        Found::End => at,
-    }
+    let Found::Whole(_, len) = field_at(s, at) else {
+        return at;
+    };
+    at + HEADER + len
 }
 
 // The content of field k, counted from the field at a position; an empty part where there are not so many.
@@ -85,10 +84,8 @@ pub fn nth_content(s: &[u8], from: usize, k: usize) -> &[u8]
     ensures { result.now ≡ nth_in k (drop from s.now) }
 {
     let mut at = from;
-    let mut left = k;
-    while 0 < left {
+    for _ in 0..k {
         at = next_at(s, at);
-        left = left - 1;
     }
     content_at(s, at)
 }

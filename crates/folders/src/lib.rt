@@ -2,7 +2,7 @@
 
 #![tactic(auto)]
 
-ghost use Rattle.std.specs.Prelude.{◌≤◌, ◌<◌, ◌≡◌, IfOk, length};
+ghost use Rattle.std.specs.Prelude.{◌≤◌, ◌<◌, ◌≡◌, IfOk, IfSome, length};
 ghost use Rattle.folders.specs.Counts.{IsPrefixLen};
 ghost use Rattle.folders.specs.Paths.{numbered_path};
 
@@ -14,39 +14,33 @@ use std::rt::Files;
 // The most files of a folder: their numbers have three digits.
 pub const FILES: usize = 1000;
 
+// Room for a rule file, and for what stands beside one and a byte more.
+const FILE: usize = 65536;
+
+const TEXT: usize = 8192;
+
 // How a file compares with what stands beside it.
-#[derive(Clone, Copy)]
-pub enum Outcome {
+enum Outcome {
     // There is no such file.
     Missing,
     Same,
     Different,
 }
 
-// Whether there is a file that may be used, and how many of its bytes are in the buffer.
-#[derive(Clone, Copy)]
-pub struct Read {
-    pub found: bool,
-    pub bytes: usize,
-}
-
 // A line about a file.
-pub fn print_about(rt: &impl Print, path: &[u8], what: &[u8]) -> io::Result<()> {
+pub fn print_about(rt: &impl Print, path: &[u8], what: &str) -> io::Result<()> {
     rt.write_all(path)?;
-    rt.write_all(b": ")?;
-    rt.write_all(what)?;
-    rt.write_all(b"\n")
+    println!(rt; ": {what}")
 }
 
 // The last line about a folder.
 pub fn print_counts(
     rt: &impl Print,
-    folder: &[u8],
+    folder: &str,
     files: usize,
     differences: usize,
 ) -> io::Result<()> {
-    rt.write_all(folder)?;
-    println!(rt; ": {files} files, {differences} differences")
+    println!(rt; "{folder}: {files} files, {differences} differences")
 }
 
 // The path of file k, by its three digits, which stand after a folder of four letters.
@@ -54,9 +48,9 @@ pub fn put_digits(path: &mut [u8], k: usize)
     requires { (8 ≤ length path.old) × (k < 1000) }
     ensures { path.new ≡ numbered_path path.old k }
 {
-    path[5] = (48 + k / 100) as u8;
-    path[6] = (48 + k / 10 % 10) as u8;
-    path[7] = (48 + k % 10) as u8;
+    path[5] = b'0' + (k / 100) as u8;
+    path[6] = b'0' + (k / 10 % 10) as u8;
+    path[7] = b'0' + (k % 10) as u8;
 }
 
 // Reads until the buffer is full or the reader ends, and hands back how many bytes are at the buffer's start. A read that a signal interrupts is tried again.
@@ -68,52 +62,93 @@ fn read_full(reader: &mut impl io::Read, buffer: &mut [u8]) -> io::Result<usize>
         match reader.read(&mut buffer[done..]) {
             Ok(0) => break,
             Ok(n) => done += n,
-            Err(error) => {
-                if error.kind() != ErrorKind::Interrupted {
-                    return Err(error);
-                }
-            }
+            Err(error) if error.kind() == ErrorKind::Interrupted => {}
+            Err(error) => return Err(error),
         }
     }
     Ok(done)
 }
 
-// A file, or as much of its start as the buffer holds. A file that cannot be opened counts as none; a read that fails leaves any bytes in the buffer.
-pub fn read_file(rt: &impl Files, path: &[u8], buffer: &mut [u8]) -> io::Result<Read>
-    ensures read { IfOk result (λ r. IsPrefixLen r.bytes buffer.new) }
+// A file, or as much of its start as the buffer holds: how many bytes of it are at the buffer's start. A file that cannot be opened counts as none; a read
+// that fails leaves any bytes in the buffer.
+pub fn read_file(rt: &impl Files, path: &[u8], buffer: &mut [u8]) -> io::Result<Option<usize>>
+    ensures read { IfOk result (λ r. IfSome r (λ n. IsPrefixLen n buffer.new)) }
     ensures size { length buffer.new ≡ length buffer.old }
 {
     let Ok(name) = str::from_utf8(path) else {
         return Err(io::Error::from(ErrorKind::InvalidInput));
     };
-    match File::open(rt, name) {
-        Ok(mut file) => {
-            let bytes = read_full(&mut file, buffer)?;
-            Ok(Read { found: true, bytes })
-        }
-        Err(_) => Ok(Read {
-            found: false,
-            bytes: 0,
-        }),
-    }
+    let Ok(mut file) = File::open(rt, name) else {
+        return Ok(None);
+    };
+    Ok(Some(read_full(&mut file, buffer)?))
 }
 
 // What stands beside a rule file. It must leave a byte of the buffer, so that all of it was read; if it does not, or is missing, that is printed.
-pub fn read_beside(rt: &(impl Files + Print), path: &[u8], buffer: &mut [u8]) -> io::Result<Read>
-    ensures read { IfOk result (λ r. IsPrefixLen r.bytes buffer.new) }
+pub fn read_beside(
+    rt: &(impl Files + Print),
+    path: &[u8],
+    buffer: &mut [u8],
+) -> io::Result<Option<usize>>
+    ensures read { IfOk result (λ r. IfSome r (λ n. IsPrefixLen n buffer.new)) }
     ensures size { length buffer.new ≡ length buffer.old }
 {
-    let read = read_file(rt, path, buffer)?;
-    if !read.found {
-        print_about(rt, path, b"missing")?;
-        return Ok(read);
+    let Some(n) = read_file(rt, path, buffer)? else {
+        print_about(rt, path, "missing")?;
+        return Ok(None);
+    };
+    if n == buffer.len() {
+        print_about(rt, path, "too long")?;
+        return Ok(None);
     }
-    if read.bytes == buffer.len() {
-        print_about(rt, path, b"too long")?;
-        return Ok(Read {
-            found: false,
-            bytes: 0,
-        });
+    Ok(Some(n))
+}
+
+// How a rule file compares with what stands beside it, by their paths. Of a longer file than the buffer holds the start is refused as the whole is.
+fn play_file<F: Fn(&[u8], &[u8], &[u8]) -> io::Result<bool>>(
+    rt: &(impl Files + Print),
+    rules: &[u8],
+    beside: &[u8],
+    compare: F,
+) -> io::Result<Outcome>
+    requires { F.IsAlwaysCallable compare }
+{
+    let mut file = [0u8; FILE];
+    let Some(n) = read_file(rt, rules, &mut file)? else {
+        return Ok(Outcome::Missing);
+    };
+    let mut text = [0u8; TEXT];
+    let Some(m) = read_beside(rt, beside, &mut text)? else {
+        return Ok(Outcome::Different);
+    };
+    if compare(rules, &file[..n], &text[..m])? {
+        Ok(Outcome::Same)
+    } else {
+        Ok(Outcome::Different)
     }
-    Ok(read)
+}
+
+// Plays the files of a folder, from 000 to the first that is missing, and prints how many there are. The paths are those of its first rule file and of
+// what stands beside that; `compare` is handed the path of a rule file, its bytes and those beside it, and says whether they are as they should be.
+pub fn play<const R: usize, const B: usize, F: Fn(&[u8], &[u8], &[u8]) -> io::Result<bool>>(
+    rt: &(impl Files + Print),
+    folder: &str,
+    mut rules: [u8; R],
+    mut beside: [u8; B],
+    compare: F,
+) -> io::Result<()>
+    requires paths { (8 ≤ R) × (8 ≤ B) }
+    requires callable { F.IsAlwaysCallable compare }
+{
+    let mut differences = 0;
+    for k in 0..FILES {
+        put_digits(&mut rules, k);
+        put_digits(&mut beside, k);
+        match play_file(rt, &rules, &beside, &compare)? {
+            Outcome::Missing => return print_counts(rt, folder, k, differences),
+            Outcome::Same => {}
+            Outcome::Different => differences += 1,
+        }
+    }
+    print_counts(rt, folder, FILES, differences)
 }

@@ -19,20 +19,20 @@ use Rattle.parser.proofs.Limits.{predicates_known}
 use Rattle.evaluation.specs.Search.{clauses_in}
 use Rattle.acceptance.specs.Handed.{Handed}
 use Rattle.acceptance.proofs.Handing.{few-states, few-preds, narrow-preds, handed_violations}
-use Rattle.sheet_reader.specs.declared.Fault.{Fault}
-use Rattle.sheet_reader.specs.declared.Fault.TheVariants.{Nowhere, At}
+use Rattle.std.specs.Prelude as rust
+use Rattle.std.specs.Prelude.{Some, None}
 use Rattle.sheet_reader.specs.Faults.{fault_answer}
 use Rattle.sheet_atoms.specs.Holding.{Segmented, Holding}
 
 -- what was found, from what was handed back: the number that is looked for is not 0
-pub nowhere : {n : ℕ} {o : Option ℕ} {f : Fault} → 0 < n → fault_answer n f ≡ refused_at n o meant.accepted → f ≡ Nowhere → o ≡ none
+pub nowhere : {n : ℕ} {o : Option ℕ} {f : rust.Option ℕ} → 0 < n → fault_answer n f ≡ refused_at n o meant.accepted → f ≡ None → o ≡ none
 nowhere {n} {o} pos is e = go o (sym (ap (fault_answer n) e) ∙ is)
   where
     go : (o : Option ℕ) → meant.accepted ≡ refused_at n o meant.accepted → o ≡ none
     go none h = refl
     go (some k) h = absurd (omega (arith, ap (λ (a : meant.Answer). a.number) h))
 
-pub somewhere : {n : ℕ} {o : Option ℕ} {f : Fault} {k : ℕ} → 0 < n → fault_answer n f ≡ refused_at n o meant.accepted → f ≡ At k → o ≡ some k
+pub somewhere : {n : ℕ} {o : Option ℕ} {f : rust.Option ℕ} {k : ℕ} → 0 < n → fault_answer n f ≡ refused_at n o meant.accepted → f ≡ Some k → o ≡ some k
 somewhere {n} {o} {k = k} pos is e = go o (sym (ap (fault_answer n) e) ∙ is)
   where
     go : (o : Option ℕ) → meant.refused n k ≡ refused_at n o meant.accepted → o ≡ some k

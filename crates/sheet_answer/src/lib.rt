@@ -12,7 +12,8 @@ ghost use Rattle.acceptance.specs.Handed.{Handed};
 
 use answers::Answer;
 use declarations::Known;
-use sheet_reader::Fault;
+use evaluation::{Automaton, Predicates};
+use fields::Section;
 
 // The answer to a sheet. The marks are zero at first, and of no use afterwards.
 pub fn judge_sheet(
@@ -32,33 +33,36 @@ pub fn judge_sheet(
     ensures size { length marks.new ≡ length marks.old }
 {
     let m = found.len();
-    match sheet_layout::first_misplaced(sheet, preds) {
-        Fault::At(k) => return answers::refusal(meaning::SHEET_MISPLACED, k),
-        Fault::Nowhere => {}
+    if let Some(k) = sheet_layout::first_misplaced(sheet, preds) {
+        return answers::refusal(meaning::SHEET_MISPLACED, k);
     }
-    match sheet_layout::first_difference(sheet, found) {
-        Fault::At(i) => return answers::refusal(meaning::SHEET_STATES_DIFFER, i),
-        Fault::Nowhere => {}
+    if let Some(i) = sheet_layout::first_difference(sheet, found) {
+        return answers::refusal(meaning::SHEET_STATES_DIFFER, i);
     }
-    match sheet_atoms::mark_atoms(sheet, marks, preds, segments, m) {
-        Fault::At(k) => return answers::refusal(meaning::SHEET_WRONG_ATOM, k),
-        Fault::Nowhere => {}
+    if let Some(k) = sheet_atoms::mark_atoms(sheet, marks, preds, segments, m) {
+        return answers::refusal(meaning::SHEET_WRONG_ATOM, k);
     }
     let counts = known.counts;
     let begins = known.starts;
     match sheet_closure::first_violation(
-        file,
-        begins[declarations::CLAUSES],
-        counts[declarations::CLAUSES],
-        symbols,
-        starts,
-        tables,
-        m,
-        preds,
-        segments,
+        &Section {
+            bytes: file,
+            from: begins[declarations::CLAUSES],
+            count: counts[declarations::CLAUSES],
+        },
+        &Automaton {
+            arities: symbols,
+            starts,
+            tables,
+            m,
+        },
+        &Predicates {
+            arities: preds,
+            segments,
+        },
         marks,
     ) {
-        Fault::At(c) => answers::refusal(meaning::SHEET_NOT_CLOSED, c),
-        Fault::Nowhere => answers::no_refusal(),
+        Some(c) => answers::refusal(meaning::SHEET_NOT_CLOSED, c),
+        None => answers::no_refusal(),
     }
 }

@@ -9,7 +9,7 @@ use Rattle.meaning.proofs.Fields.{first-after, FrontIs, front_law, fields-step, 
 use Rattle.fields.specs.Found.{content_in, next_in}
 use Rattle.sheet_reader.specs.Tags.{tag_in}
 use Rattle.fields.proofs.Fronts.{front_rest}
-use Rattle.sheet_reader.specs.declared.Fault.TheVariants.{Nowhere, At}
+use Rattle.std.specs.Prelude.{Some, None}
 use Rattle.sheet_reader.specs.Faults.{fault_answer}
 use Rattle.sheet_atoms.specs.Holding.{is_free, Holding}
 use Rattle.sheet_atoms.proofs.Atoms.{hold_none, wrong_is, hold_free}
@@ -46,7 +46,7 @@ module _ (m : ℕ) (preds sheet : List ℕ) where
   module _ {at k : ℕ} {marks : List ℕ} {done : List Field} (r : Reached m preds sheet at k marks done) where
     -- at the end
     pub ends : length sheet ≤ at
-        → (fault_answer 12 Nowhere ≡ refused_at 12 (first_field (wrong_atom m) (fields sheet)) accepted)
+        → (fault_answer 12 None ≡ refused_at 12 (first_field (wrong_atom m) (fields sheet)) accepted)
         × ((length marks ≡ cells m preds)
         × (first_field (wrong_atom m) (fields sheet) ≡ none → Holding m preds (contents_of atom_tag (fields sheet)) marks))
     ends le =
@@ -167,7 +167,7 @@ module _ (m : ℕ) (preds sheet : List ℕ) where
           puts_by e = puts ∙ ap (λ (a : Bool). cond a (set marks (place m preds (get_or content 0 0) (drop 1 content)) 2) marks) e
 
           pub stop_wrong : b ≡ false
-              → (fault_answer 12 (At k) ≡ refused_at 12 (first_field (wrong_atom m) (fields sheet)) accepted)
+              → (fault_answer 12 (Some k) ≡ refused_at 12 (first_field (wrong_atom m) (fields sheet)) accepted)
               × ((length marks' ≡ cells m preds)
               × (first_field (wrong_atom m) (fields sheet) ≡ none → Holding m preds (contents_of atom_tag (fields sheet)) marks'))
           stop_wrong e =

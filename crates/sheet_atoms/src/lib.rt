@@ -13,19 +13,17 @@ ghost use Rattle.meaning.specs.Certificates.{is_atom_content, misplaced, wrong_a
 ghost use Rattle.sheet_reader.specs.Faults.{fault_answer};
 ghost use Rattle.sheet_atoms.specs.Holding.{is_free, Segmented, Holding};
 
-use sheet_reader::Fault;
-
 // Marks an atom as new, in its predicate's part of the marks, if its states are below m and it is not marked. Hands back whether that was so.
 fn mark_atom(content: &[u8], marks: &mut [u8], preds: &[u8], segments: &[u32], m: usize) -> bool
     requires { T (is_atom_content preds.now content.now) × Segmented m preds.now segments.now × (length marks.old ≡ cells m preds.now) }
     ensures { (result ≡ is_free m preds.now marks.old content.now) × (marks.new ≡ cond result (set marks.old (place m preds.now (get_or content.now 0 0) (drop 1 content.now)) 2) marks.old) }
 {
-    let p = byte_runs::wide(content[0]);
+    let p = usize::from(content[0]);
     let row = &content[1..];
     if !byte_runs::all_below(row, m) {
         return false;
     }
-    let a = byte_runs::index(segments[p]);
+    let a = segments[p] as usize;
     let e = a + cells::power(m, preds[p]);
     cells::replace(
         &mut marks[a..e],
@@ -36,14 +34,20 @@ fn mark_atom(content: &[u8], marks: &mut [u8], preds: &[u8], segments: &[u32], m
 }
 
 // Marks the atoms of a sheet as new, to the first field of an atom that has a state not below m or is there for the second time.
-pub fn mark_atoms(sheet: &[u8], marks: &mut [u8], preds: &[u8], segments: &[u32], m: usize) -> Fault
+pub fn mark_atoms(
+    sheet: &[u8],
+    marks: &mut [u8],
+    preds: &[u8],
+    segments: &[u32],
+    m: usize,
+) -> Option<usize>
     requires { (first_field (misplaced preds.now) (fields sheet.now) ≡ none) × Segmented m preds.now segments.now × (marks.old ≡ replicate (cells m preds.now) 0) }
     ensures fault { fault_answer 12 result ≡ refused_at 12 (first_field (wrong_atom m) (fields sheet.now)) accepted }
     ensures size { length marks.new ≡ cells m preds.now }
     ensures holding { first_field (wrong_atom m) (fields sheet.now) ≡ none → Holding m preds.now (contents_of atom_tag (fields sheet.now)) marks.new }
 {
-    let mut at: usize = 0;
-    let mut k: usize = 0;
+    let mut at = 0;
+    let mut k = 0;
     while at < sheet.len() {
         if sheet_reader::tag_of(sheet, at) == meaning::ATOM_TAG {
             if !mark_atom(
@@ -53,11 +57,11 @@ pub fn mark_atoms(sheet: &[u8], marks: &mut [u8], preds: &[u8], segments: &[u32]
                 segments,
                 m,
             ) {
-                return Fault::At(k);
+                return Some(k);
             }
         }
         at = sheet_reader::next_of(sheet, at);
         k += 1;
     }
-    Fault::Nowhere
+    None
 }

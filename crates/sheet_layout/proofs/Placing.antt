@@ -1,7 +1,7 @@
 -- What 10 says of a field; and in bytes to which it does not fit, where the states stand. Assumes nothing.
-use Rattle.meaning.proofs.Prelude.{ℕ, ◌+◌, ◌≤◌, ◌<◌, suc, ◌≡◌, refl, sym, ap, ◌∙◌, subst, ap₂, ⊎_elim, ◌⊎◌, inl, inr, cond, Bool, true, false, not}
-use Rattle.meaning.proofs.Prelude.{◌&&◌, ◌||◌, List, [], ◌∷◌, map, ◌++◌, map-append, append_assoc, append-nil, ltb, T, eqb, eqb→eq, eqb-suc-suc}
-use Rattle.meaning.proofs.Prelude.{length, length-append, length-map, get_or, drop, get_or_at, add-one, arith, ne_eqb, eq-eqb, lt-ltb, le-ltb}
+use Rattle.meaning.proofs.Prelude.{ℕ, ◌+◌, ◌<◌, ◌≡◌, refl, sym, ap, ◌∙◌, subst, ⊎_elim, ◌⊎◌, inl, inr, cond, Bool, true, false, not}
+use Rattle.meaning.proofs.Prelude.{◌||◌, List, [], ◌∷◌, map, ◌++◌, map-append, append_assoc, append-nil, ltb, T, eqb, eqb→eq}
+use Rattle.meaning.proofs.Prelude.{length, length-append, length-map, get_or, drop, get_or_at, arith, ne_eqb, eq-eqb, lt-ltb}
 use Rattle.meaning.proofs.Definitions.{state_tag, atom_tag, Field, whole, cut, word, Front, empty, short, front, front_of, on_front, fields, contents_of}
 use Rattle.meaning.proofs.Definitions.{is_atom_content, misplaced, states_in}
 use Rattle.meaning.proofs.Lists.{T_of, T_false, clash, not-not, neither}
@@ -10,49 +10,6 @@ use Rattle.fields.specs.Found.{content_in, next_in}
 use Rattle.fields.proofs.Fronts.{front_rest}
 use Rattle.sheet_reader.specs.Tags.{tag_in}
 use Rattle.sheet_layout.specs.Reading.{misplaced_after, NoneMisplaced}
-
--- an atom's content, by its first byte
-pub atom_nothing : (preds content : List ℕ) → length content ≡ 0 → false ≡ is_atom_content preds content
-atom_nothing preds [] e = refl
-atom_nothing preds (p ∷ row) e = absurd (omega arith)
-
-module _ (preds content : List ℕ) (p : ℕ) (some_byte : 0 < length content) (first : p ≡ get_or content 0 0) where
-  pub atom-declared : (n : ℕ) → n ≡ get_or preds p 0 → p < length preds → eqb (n + 1) (length content) ≡ is_atom_content preds content
-  atom-declared n e lt = go content some_byte first
-    where
-      go : (content : List ℕ) → 0 < length content → p ≡ get_or content 0 0 → eqb (n + 1) (length content) ≡ is_atom_content preds content
-      go [] h f = absurd (omega arith)
-      go (q ∷ row) h f =
-          ap (λ (k : ℕ). eqb k (suc (length row))) (add-one n)
-          ∙ (eqb-suc-suc n (length row)
-          ∙ (ap (λ (k : ℕ). eqb k (length row)) e
-          ∙ subst
-          (λ (k : ℕ). eqb (get_or preds p 0) (length row) ≡ (ltb k (length preds) && eqb (get_or preds k 0) (length row)))
-          f
-          (sym (ap (λ (b : Bool). b && eqb (get_or preds p 0) (length row)) (lt-ltb p (length preds) lt)))))
-
-  pub atom_undeclared : length preds ≤ p → false ≡ is_atom_content preds content
-  atom_undeclared le = go content some_byte first
-    where
-      go : (content : List ℕ) → 0 < length content → p ≡ get_or content 0 0 → false ≡ is_atom_content preds content
-      go [] h f = absurd (omega arith)
-      go (q ∷ row) h f =
-          subst
-          (λ (k : ℕ). false ≡ (ltb k (length preds) && eqb (get_or preds k 0) (length row)))
-          f
-          (sym (ap (λ (b : Bool). b && eqb (get_or preds p 0) (length row)) (le-ltb p (length preds) le)))
-
--- a field of another tag is misplaced
-pub misplaced_other : (preds : List ℕ) (atoms : Bool) (tag : ℕ) (content : List ℕ)
-    → (tag ≡ 16 → ⊥)
-    → (tag ≡ 17 → ⊥)
-    → true ≡ misplaced_after preds atoms tag content
-misplaced_other preds atoms tag content h k =
-    sym
-    (ap₂
-    (λ (b d : Bool). cond b (atoms || not (eqb (length content) 2)) (cond d (not (is_atom_content preds content)) true))
-    (ne_eqb tag 16 h)
-    (ne_eqb tag 17 k))
 
 -- whether an atom's field is among some
 abbrev pub seen : List Field → Bool

@@ -1,9 +1,8 @@
--- The number and place of 01 for each case of a fault, where `number` is the one that is looked for.
-use Rattle.std.specs.Prelude.{ℕ}
+-- The number and place of 01 for what a search of a sheet finds, where `number` is the one that is looked for: the lowest place that it fits, if there
+-- is one.
+use Rattle.std.specs.Prelude.{ℕ, Option, Some, None}
 use Rattle.meaning.specs.Refusals.{Answer, refused, accepted}
-use Rattle.sheet_reader.specs.declared.Fault.{Fault}
-use Rattle.sheet_reader.specs.declared.Fault.TheVariants.{Nowhere, At}
 
-abbrev pub fault_answer : ℕ → Fault → Answer
-fault_answer number Nowhere = accepted
-fault_answer number (At k) = refused number k
+abbrev pub fault_answer : ℕ → Option ℕ → Answer
+fault_answer number None = accepted
+fault_answer number (Some k) = refused number k

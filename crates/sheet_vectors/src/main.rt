@@ -8,16 +8,12 @@ ghost use Rattle.std.specs.Prelude.{◌+◌, ◌≤◌, ◌<◌, ◌≡◌, true
 ghost use Rattle.meaning.specs.Fields.{word};
 ghost use Rattle.sheet_vectors.specs.Expected.{IsSheet};
 
-use folders::Outcome;
 use std::io;
-use std::rt::Files;
 
-// Room for a rule file, for the domain atoms of the files played, and for what stands beside one and a byte more.
-const FILE: usize = 65536;
-
+// Room for the domain atoms of the files played, and for a sheet.
 const MARKS: usize = 8192;
 
-const TEXT: usize = 8192;
+const SHEET: usize = 8192;
 
 // What is expected of a sheet: the answer's number, from here on its place in two bytes, how many table cells there are in two, these, and the sheet itself.
 const PLACE: usize = 1;
@@ -25,15 +21,6 @@ const PLACE: usize = 1;
 const COUNT: usize = 3;
 
 const CELLS: usize = 5;
-
-// What of a file is compared with what stands beside it.
-#[derive(Clone, Copy)]
-pub enum Way {
-    // The answer to a sheet that is offered, and the tables.
-    Check,
-    // The sheet that is written.
-    Sheet,
-}
 
 // Two bytes as a number, high byte first.
 fn word_at(s: &[u8], at: usize) -> usize
@@ -73,7 +60,7 @@ fn compare_check(rt: &impl Print, path: &[u8], file: &[u8], expected: &[u8]) -> 
     if is_checked(file, expected, &mut tables, &mut marks) {
         return Ok(true);
     }
-    folders::print_about(rt, path, b"other answer to the sheet, or other tables")?;
+    folders::print_about(rt, path, "other answer to the sheet, or other tables")?;
     Ok(false)
 }
 
@@ -106,7 +93,7 @@ fn compare_sheet(rt: &impl Print, path: &[u8], file: &[u8], expected: &[u8]) -> 
     let mut tables = [0u8; buffers::TABLES];
     let mut marks = [0u8; MARKS];
     let mut verdicts = [0u8; buffers::VERDICTS];
-    let mut sheet = [0u8; TEXT];
+    let mut sheet = [0u8; SHEET];
     let is = is_sheet(
         file,
         expected,
@@ -119,93 +106,23 @@ fn compare_sheet(rt: &impl Print, path: &[u8], file: &[u8], expected: &[u8]) -> 
     if is {
         return Ok(true);
     }
-    folders::print_about(rt, path, b"other sheet")?;
+    folders::print_about(rt, path, "other sheet")?;
     Ok(false)
 }
 
-// By one of the ways.
-fn compare_by(
-    rt: &impl Print,
-    way: Way,
-    path: &[u8],
-    file: &[u8],
-    beside: &[u8],
-) -> io::Result<bool> {
-    match way {
-        Way::Check => compare_check(rt, path, file, beside),
-        Way::Sheet => compare_sheet(rt, path, file, beside),
-    }
-}
-
-// A rule file and what stands beside it, by their paths. Of a longer file than the buffer holds the start is refused as the whole is.
-fn play_file(
-    rt: &(impl Files + Print),
-    rules: &[u8],
-    beside: &[u8],
-    way: Way,
-) -> io::Result<Outcome> {
-    let mut file = [0u8; FILE];
-    let read = folders::read_file(rt, rules, &mut file)?;
-    if !read.found {
-        return Ok(Outcome::Missing);
-    }
-    let mut text = [0u8; TEXT];
-    let other = folders::read_beside(rt, beside, &mut text)?;
-    if !other.found {
-        return Ok(Outcome::Different);
-    }
-    let n = read.bytes;
-    let m = other.bytes;
-    if compare_by(rt, way, rules, &file[..n], &text[..m])? {
-        return Ok(Outcome::Same);
-    }
-    Ok(Outcome::Different)
-}
-
-// The files of a folder, from 000 to the first that is missing.
-fn play(
-    rt: &(impl Files + Print),
-    folder: &[u8],
-    rules: &mut [u8],
-    beside: &mut [u8],
-    way: Way,
-) -> io::Result<()>
-    requires { (8 ≤ length rules.old) × (8 ≤ length beside.old) }
-{
-    let mut files: usize = 0;
-    let mut differences: usize = 0;
-    while files < folders::FILES {
-        folders::put_digits(rules, files);
-        folders::put_digits(beside, files);
-        match play_file(rt, rules, beside, way)? {
-            Outcome::Missing => {
-                return folders::print_counts(rt, folder, files, differences);
-            }
-            Outcome::Same => {
-                files += 1;
-            }
-            Outcome::Different => {
-                files += 1;
-                differences += 1;
-            }
-        }
-    }
-    folders::print_counts(rt, folder, files, differences)
-}
-
-fn play_pass(rt: &(impl Files + Print)) -> io::Result<()> {
-    let mut rules = *b"pass/000.rules";
-    let mut beside = *b"pass/000.check";
-    play(rt, b"pass", &mut rules, &mut beside, Way::Check)
-}
-
-fn play_made(rt: &(impl Files + Print)) -> io::Result<()> {
-    let mut rules = *b"made/000.rules";
-    let mut beside = *b"made/000.sheet";
-    play(rt, b"made", &mut rules, &mut beside, Way::Sheet)
-}
-
 fn main(rt: HostRuntime) -> io::Result<()> {
-    play_pass(&rt)?;
-    play_made(&rt)
+    folders::play(
+        &rt,
+        "pass",
+        *b"pass/000.rules",
+        *b"pass/000.check",
+        |path, file, beside| compare_check(&rt, path, file, beside),
+    )?;
+    folders::play(
+        &rt,
+        "made",
+        *b"made/000.rules",
+        *b"made/000.sheet",
+        |path, file, beside| compare_sheet(&rt, path, file, beside),
+    )
 }

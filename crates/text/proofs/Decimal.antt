@@ -1,9 +1,11 @@
 -- Numbers in decimal: the digits of a number below ten and of another; what they are worth is the number; each is one of the bytes 48 to 57,
--- the first is 48 only of 0; how many there are at most; and the last digits of a number, of which its own are as many as it has.
+-- the first is 48 only of 0; how many there are at most; and that it is what the library prints.
 -- Assumes nothing.
 use Rattle.meaning.proofs.Prelude.{ℕ, ◌+◌, ◌≤◌, ◌-◌, ◌<◌, zero, suc, ◌^◌, ◌*◌, ◌/◌, ◌%◌, ◌≡◌, refl, sym, ap, ◌∙◌, ⊎_elim, ◌⊎◌, inl, inr, List, []}
 use Rattle.meaning.proofs.Prelude.{◌∷◌, ◌++◌, Memᴰ, mem-eq_of_singleton, mem-append_cases, length, length-append, get_or}
-use Rattle.meaning.proofs.Prelude.{get_or-append, zero-lt-suc, pow-suc, div-lt_iff_lt-mul, add-one, dec_lt, arith, lt-ltb, le-ltb}
+use Rattle.meaning.proofs.Prelude.{get_or-append, zero-lt-suc, pow-suc, div-lt_iff_lt-mul, dec_lt, arith, lt-ltb, le-ltb}
+use Rattle.std.specs.Prelude.{decimal as printed}
+use Rattle.std.proofs.lemmas.Fmt.{decimal_by_steps}
 use Rattle.text.specs.Decimal.{digit, digits_in, decimal, value_after, value}
 
 -- some numbers
@@ -117,18 +119,8 @@ digits_only =
     (λ n lt b m. omega (arith, mem-eq_of_singleton (rw (decimal-small n lt) at m)))
     (λ n ge ih b m. ⊎_elim (ih b) (λ m₁. omega (arith, mem-eq_of_singleton m₁)) (mem-append_cases (decimal (n / 10)) (rw (decimal-more n ge) at m)))
 
--- the last k digits of n, and the digits of n as the last of them
-unfoldable pub last_digits : ℕ → ℕ → List ℕ
-last_digits zero n = []
-last_digits (suc k) n = last_digits k (n / 10) ++ (digit (n % 10) ∷ [])
-
-pub length_last : (k n : ℕ) → length (last_digits k n) ≡ k
-unfolding last_digits
-length_last zero n = refl
-length_last (suc k) n = length-append (last_digits k (n / 10)) (digit (n % 10) ∷ []) ∙ add-one (length (last_digits k (n / 10))) ∙ ap suc (length_last k (n / 10))
-
-pub last_all : (n : ℕ) → last_digits (length (decimal n)) n ≡ decimal n
-last_all =
-    by_tenths (λ n. last_digits (length (decimal n)) n ≡ decimal n)
-    (λ n lt. unfold last_digits in rw (length-small n lt) (ap (λ (d : ℕ). digit d ∷ []) (omega arith) ∙ sym (decimal-small n lt)))
-    (λ n ge ih. unfold last_digits in rw (length_more n ge, add-one (length (decimal (n / 10)))) (ap (λ (l : List ℕ). l ++ (digit (n % 10) ∷ [])) ih ∙ sym (decimal-more n ge)))
+-- what the library prints of a number is the number in decimal
+pub printed_is : (n : ℕ) → n < 2 ^ 64 → printed n ≡ decimal n
+printed_is =
+    decimal_by_steps (λ n ds. ds ≡ decimal n) (λ n lt. sym (decimal-small n lt))
+    (λ n ds ge e. ap (λ (l : List ℕ). l ++ (digit (n % 10) ∷ [])) e ∙ sym (decimal-more n ge))

@@ -12,16 +12,10 @@ ghost use Rattle.analysis.specs.Given.{Filled};
 ghost use Rattle.vectors.specs.Expected.{stands_at};
 
 use declarations::Known;
-use folders::Outcome;
 use std::io;
-use std::rt::Files;
 
-// Room for a rule file, for the domain atoms of the files played, for a listing and a byte more, and for a piece of one.
-const FILE: usize = 65536;
-
+// Room for the domain atoms of the files played, and for a piece of a listing.
 const MARKS: usize = 8192;
-
-const TEXT: usize = 8192;
 
 const OUT: usize = 4096;
 
@@ -156,73 +150,26 @@ fn compare_listing(rt: &impl Print, path: &[u8], file: &[u8], expected: &[u8]) -
     if is {
         return Ok(true);
     }
-    folders::print_about(rt, path, b"other listing")?;
+    folders::print_about(rt, path, "other listing")?;
     Ok(false)
 }
 
-// A rule file and what stands beside it, by their paths. Of a longer file than the buffer holds the start is refused as the whole is.
-fn play_file(rt: &(impl Files + Print), rules: &[u8], beside: &[u8]) -> io::Result<Outcome> {
-    let mut file = [0u8; FILE];
-    let read = folders::read_file(rt, rules, &mut file)?;
-    if !read.found {
-        return Ok(Outcome::Missing);
-    }
-    let mut text = [0u8; TEXT];
-    let other = folders::read_beside(rt, beside, &mut text)?;
-    if !other.found {
-        return Ok(Outcome::Different);
-    }
-    let n = read.bytes;
-    let m = other.bytes;
-    if compare_listing(rt, rules, &file[..n], &text[..m])? {
-        return Ok(Outcome::Same);
-    }
-    Ok(Outcome::Different)
-}
-
-// The files of a folder, from 000 to the first that is missing.
-fn play(
-    rt: &(impl Files + Print),
-    folder: &[u8],
-    rules: &mut [u8],
-    beside: &mut [u8],
-) -> io::Result<()>
-    requires { (8 ≤ length rules.old) × (8 ≤ length beside.old) }
-{
-    let mut files: usize = 0;
-    let mut differences: usize = 0;
-    while files < folders::FILES {
-        folders::put_digits(rules, files);
-        folders::put_digits(beside, files);
-        match play_file(rt, rules, beside)? {
-            Outcome::Missing => {
-                return folders::print_counts(rt, folder, files, differences);
-            }
-            Outcome::Same => {
-                files += 1;
-            }
-            Outcome::Different => {
-                files += 1;
-                differences += 1;
-            }
-        }
-    }
-    folders::print_counts(rt, folder, files, differences)
-}
-
-fn play_base(rt: &(impl Files + Print)) -> io::Result<()> {
-    let mut rules = *b"base/000.rules";
-    let mut beside = *b"base/000.listing";
-    play(rt, b"base", &mut rules, &mut beside)
-}
-
-fn play_full(rt: &(impl Files + Print)) -> io::Result<()> {
-    let mut rules = *b"full/000.rules";
-    let mut beside = *b"full/000.listing";
-    play(rt, b"full", &mut rules, &mut beside)
-}
-
 fn main(rt: HostRuntime) -> io::Result<()> {
-    play_base(&rt)?;
-    play_full(&rt)
+    let compare = |path: &[u8], file: &[u8], expected: &[u8]| compare_listing(
+        &rt, path, file, expected,
+    );
+    folders::play(
+        &rt,
+        "base",
+        *b"base/000.rules",
+        *b"base/000.listing",
+        &compare,
+    )?;
+    folders::play(
+        &rt,
+        "full",
+        *b"full/000.rules",
+        *b"full/000.listing",
+        &compare,
+    )
 }

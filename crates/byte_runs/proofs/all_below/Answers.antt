@@ -1,21 +1,12 @@
--- The goals that are not found.
-use Rattle.meaning.proofs.Prelude.{◌≡◌, sym, ◌∙◌, true, false, ltb, get_or, arith, lt-ltb, le-ltb}
-use Rattle.meaning.proofs.Loops.{all_end, all_fails, all_next}
+-- `byte_runs::all_below` meets its contract: the library's test of all members is `all_of`. Assumes nothing.
+use Rattle.std.proofs.lemmas.Iterator.{YieldsList-from_slice}
+use Rattle.std.proofs.lemmas.Iterator.Search.{all_from_yields_List}
+use borrow.Author.Tests.{tests}
+use Rattle.meaning.proofs.Prelude.{◌∙◌, ltb, rules}
+use Rattle.byte_runs.proofs.Tests.{list_all-is}
 use Rattle.byte_runs.proofs.all_below.Goals as goal
 
-pub returns-then-m-wide : goal.returns-then-m-wide
-returns-then-m-wide c = let a = c.args in
-    let l = c.loop-i in
-    let here : ltb (get_or a.s.now l.i 0) a.m ≡ false = rw (← c.wide.ensures.0) (le-ltb _ _ c.if-m-wide.true) in
-    sym (sym l.invariant ∙ all_fails (λ x. ltb x a.m) a.s.now l.i (omega arith) here)
-
-pub loop-i-preserved : goal.loop-i-preserved
-loop-i-preserved c = let a = c.args in
-    let l = c.loop-i in
-    let here : ltb (get_or a.s.now l.i 0) a.m ≡ true = rw (← c.wide.ensures.0) (lt-ltb _ _ c.if-m-wide.false) in
-    sym (all_next (λ x. ltb x a.m) a.s.now l.i (omega arith) here) ∙ l.invariant
-
 pub returns : goal.returns
-returns c = let a = c.args in
-    let l = c.loop-i in
-    sym (sym l.invariant ∙ all_end (λ x. ltb x a.m) a.s.now l.i (omega arith))
+returns c =
+    all_from_yields_List (λ x. ltb x c.args.m) _ _ c.all.result c.all.ensures.ran (YieldsList-from_slice c.args.s.now cc) (λ x b q k. search (rules, tests))
+    ∙ list_all-is (λ x. ltb x c.args.m) c.args.s.now

@@ -13,7 +13,7 @@ returns-then-left-lt-HEADER c = sym (found-cut c.args.s.now c.args.at (omega ari
 pub returns-then-len-left : goal.returns-then-len-left
 returns-then-len-left c = let s = c.args.s.now in
     let at = c.args.at in
-    ap₂ (λ (high low : ℕ). Whole (get_or s at 0) (high * 256 + low)) c.wide.ensures.0 c.wide-2.ensures.0
+    ap₂ (λ (high low : ℕ). Whole (get_or s at 0) (high * 256 + low)) c.from.ensures c.from-2.ensures
     ∙ sym (found-whole s at (omega arith) (omega arith))
 
 pub returns-else-len-left : goal.returns-else-len-left

@@ -27,32 +27,32 @@ returns-then-not-all_below c = let a = c.args in
 pub offset_bounds-segments-p : goal.offset_bounds-segments-p
 offset_bounds-segments-p c = let a = c.args in
     let h = c.requires in
-    omega (arith, predicate-lt a.m a.preds.now a.segments.now a.content.now a.marks.now h c.wide-p.ensures.0, h.1.few)
+    omega (arith, predicate-lt a.m a.preds.now a.segments.now a.content.now a.marks.now h c.from-p.ensures, h.1.few)
 
 pub bounds-segments-p : goal.bounds-segments-p
 bounds-segments-p c = let a = c.args in
     let h = c.requires in
-    omega (arith, predicate-lt a.m a.preds.now a.segments.now a.content.now a.marks.now h c.wide-p.ensures.0, h.1.enough)
+    omega (arith, predicate-lt a.m a.preds.now a.segments.now a.content.now a.marks.now h c.from-p.ensures, h.1.enough)
 
 pub bounds-preds-p : goal.bounds-preds-p
 bounds-preds-p c = let a = c.args in
     let h = c.requires in
-    predicate-lt a.m a.preds.now a.segments.now a.content.now a.marks.now h c.wide-p.ensures.0
+    predicate-lt a.m a.preds.now a.segments.now a.content.now a.marks.now h c.from-p.ensures
 
 pub power-requires : goal.power-requires
 power-requires c = let a = c.args in
     let h = c.requires in
-    (h.1.states, omega (arith, All-get_or _ a.preds.now 0 h.1.narrow _ (predicate-lt a.m a.preds.now a.segments.now a.content.now a.marks.now h c.wide-p.ensures.0)))
+    (h.1.states, omega (arith, All-get_or _ a.preds.now 0 h.1.narrow _ (predicate-lt a.m a.preds.now a.segments.now a.content.now a.marks.now h c.from-p.ensures)))
 
 pub overflow_add-e : goal.overflow_add-e
 overflow_add-e c = let a = c.args in
     let h = c.requires in
-    omega (arith, part-inside a.m a.preds.now a.segments.now a.content.now a.marks.now h c.wide-p.ensures.0 c.index-a.ensures.0 c.power.ensures)
+    omega (arith, part-inside a.m a.preds.now a.segments.now a.content.now a.marks.now h c.from-p.ensures refl c.power.ensures)
 
 pub slice_bounds-replace-end : goal.slice_bounds-replace-end
 slice_bounds-replace-end c = let a = c.args in
     let h = c.requires in
-    part-inside a.m a.preds.now a.segments.now a.content.now a.marks.now h c.wide-p.ensures.0 c.index-a.ensures.0 c.power.ensures
+    part-inside a.m a.preds.now a.segments.now a.content.now a.marks.now h c.from-p.ensures refl c.power.ensures
 
 pub cell_of-requires : goal.cell_of-requires
 cell_of-requires c = let a = c.args in
@@ -62,10 +62,10 @@ cell_of-requires c = let a = c.args in
 pub replace-requires : goal.replace-requires
 replace-requires c = let a = c.args in
     let h = c.requires in
-    cell-inside a.m a.preds.now a.segments.now a.content.now a.marks.now h c.wide-p.ensures.0 c.index-a.ensures.0 c.power.ensures c.cell_of.ensures c.all_below.ensures c.if-not-all_below.false
+    cell-inside a.m a.preds.now a.segments.now a.content.now a.marks.now h c.from-p.ensures refl c.power.ensures c.cell_of.ensures c.all_below.ensures c.if-not-all_below.false
 
 pub returns : goal.returns
 returns c = let a = c.args in
     let h = c.requires in
     let done = c.replace.ensures in
-    part-marked a.m a.preds.now a.segments.now a.content.now a.marks.now h c.wide-p.ensures.0 c.index-a.ensures.0 c.power.ensures c.cell_of.ensures c.all_below.ensures c.if-not-all_below.false done.0 done.1
+    part-marked a.m a.preds.now a.segments.now a.content.now a.marks.now h c.from-p.ensures refl c.power.ensures c.cell_of.ensures c.all_below.ensures c.if-not-all_below.false done.0 done.1
