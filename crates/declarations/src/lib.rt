@@ -2,7 +2,7 @@
 
 #![tactic(auto)]
 
-ghost use Rattle.std.specs.Prelude.{◌≤◌, ◌≡◌, List, map, take, drop, get_or, true, false, MatchOption};
+ghost use Rattle.std.specs.Prelude.{◌≤◌, ◌≡◌, List, map, take, drop, get_or, true, false, MatchOption, IfOk};
 ghost use Rattle.std.proofs.Math.Option.{none, some};
 ghost use Rattle.meaning.specs.Lists.{any_of, same};
 ghost use Rattle.meaning.specs.Limits.{tag_of, most_of};
@@ -59,7 +59,7 @@ impl Kind {
     }
 
     // The place of the kind in arrays by tag.
-    fn index(self) -> usize
+    pub fn index(self) -> usize
         ensures { result ≡ tag_of (meant self) }
     {
         self as usize
@@ -199,7 +199,7 @@ fn is_name_taken(earlier: &Section, kind: Kind, content: &[u8]) -> bool
     }
 }
 
-// The first of 3, 6, 4, 5 that fits field k, which has a tag and a content.
+// The kind of field k, which has a tag and a content, or the first of 3, 6, 4, 5 that fits it.
 pub fn judge_field(
     file: &[u8],
     content: &[u8],
@@ -207,9 +207,10 @@ pub fn judge_field(
     last: u8,
     known: &Known,
     k: usize,
-) -> Result<(), Refusal>
+) -> Result<Kind, Refusal>
     requires { CountsFit known.now }
-    ensures { (done : List Field) → Stands file.now known.now last done → answered result ≡ field_answer k (refusal done (whole tag content.now)) }
+    ensures kind { IfOk result (λ kind. tag ≡ tag_of (meant kind)) }
+    ensures answer { (done : List Field) → Stands file.now known.now last done → answered result ≡ field_answer k (refusal done (whole tag content.now)) }
 {
     let Some(kind) = kind_after(tag, last) else {
         return Err(Refusal::WrongTag(k));
@@ -224,5 +225,5 @@ pub fn judge_field(
     if is_name_taken(&earlier, kind, content) {
         return Err(Refusal::NameTaken(k));
     }
-    Ok(())
+    Ok(kind)
 }
