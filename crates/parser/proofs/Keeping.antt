@@ -184,17 +184,9 @@ module _ (known : Known) (done : List Field) (knows : Knows known done) where
   knows_more t at content symbols predicates h w bytes s p =
       record { counts = counts-more t content h; starts = starts_more t content h at w bytes; symbols = s; predicates = p }
 
--- the room for a symbol, for a predicate, and for all
+-- the room for a symbol and for a predicate
 pub room-symbol : (tag n : ℕ) → tag ≡ 1 → n < room_for tag → n < 24
 room-symbol tag n e h = subst (λ (t : ℕ). n < room_for t) e h
 
 pub room-predicate : (tag n : ℕ) → tag ≡ 4 → n < room_for tag → n < 16
 room-predicate tag n e h = subst (λ (t : ℕ). n < room_for t) e h
-
-pub room_byte : (tag n : ℕ) → n < room_for tag → n + 1 < 256
-room_byte tag n h = go (eqb tag 1) (eqb tag 4) h
-  where
-    go : (a b : Bool) → n < cond a 24 (cond b 16 255) → n + 1 < 256
-    go true b lt = omega arith
-    go false true lt = omega arith
-    go false false lt = omega arith

@@ -22,12 +22,7 @@ use fields::Found;
 fn nothing() -> Known
     ensures { Knows result [] }
 {
-    Known {
-        counts: [0; declarations::KINDS],
-        starts: [0; declarations::KINDS],
-        symbols: [0; meaning::MOST_SYMBOLS as usize],
-        predicates: [0; meaning::MOST_PREDICATES as usize],
-    }
+    Known::default()
 }
 
 // One field more is known, by its kind, its first content byte and its place.
@@ -55,7 +50,7 @@ fn first_of(s: &[u8]) -> u8
     s.first().copied().unwrap_or(0)
 }
 
-// Whether a file is refused, and what was read before that.
+// Whether a file is refused, and beside it what was read before that, which is promised on refusal too (`fields_read`).
 #[derive(Clone, Copy)]
 pub struct Reading {
     pub outcome: Result<(), Refusal>,
@@ -82,7 +77,9 @@ fn read_fields(file: &[u8], known: &mut Known) -> Result<(), Refusal>
 {
     let mut at = 0;
     let mut k = 0;
+    // 0 before the first field, as in `last_tag` of the meaning.
     let mut last = 0;
+    // A loop that counts k: as `for k in 0..=n` it would need a way out behind it that no file takes.
     loop {
         match fields::field_at(file, at) {
             Found::Whole(tag, len) => {
