@@ -52,6 +52,10 @@ abbrev pub Judged : List ℕ → Known → ℕ → ℕ → List ℕ → ℕ → 
 Judged file known last tag content k answer =
     (done : List Field) → Stands file known last done → answer ≡ field_answer k (refusal done (whole tag content))
 
+-- a tag that has a kind is the kind's
+pub at_kind : {tag : ℕ} {kind : Kind} → kind_of tag ≡ some kind → tag ≡ tag_of kind
+at_kind {tag} e = post_at (λ (kind : Kind). tag ≡ tag_of kind) e (kind_tag tag)
+
 -- the ways out of `judge_field`, each with what the calls before it gave
 module _ (file : Bor (List ℕ)) (known : Known) (last tag : ℕ) (content : List ℕ) (k : ℕ) where
   judged : (n : ℕ)
@@ -64,12 +68,12 @@ module _ (file : Bor (List ℕ)) (known : Known) (last tag : ℕ) (content : Lis
   wrong_tag_lem e = judged 3 (rw e)
 
   module _ {kind : Kind} (right : (wrong_tag_after tag last ≡ false) × (kind_of tag ≡ some kind)) {most : ℕ} (limit : most ≡ most_of kind) {earlier : Section} (found : (earlier.bytes ≡ file) × (earlier.from ≡ get_or known.starts (tag_of kind) 0) × (earlier.count ≡ get_or known.counts (tag_of kind) 0)) where
-    at_kind : tag ≡ tag_of kind
-    at_kind = post_at (λ (g : Kind). tag ≡ tag_of g) right.1 (kind_tag tag)
+    same_tag : tag ≡ tag_of kind
+    same_tag = at_kind right.1
 
     full-is : is_full known tag ≡ leb most earlier.count
     full-is =
-        ap₂ (λ (o : Option Kind) (t : ℕ). test_kind o (λ g. leb (most_of g) (get_or known.counts t 0))) right.1 at_kind
+        ap₂ (λ (o : Option Kind) (t : ℕ). test_kind o (λ g. leb (most_of g) (get_or known.counts t 0))) right.1 same_tag
         ∙ sym (ap₂ leb limit found.2)
 
     pub too_many_lem : most ≤ earlier.count → Judged file.now known last tag content k (refused 6 k)
@@ -78,7 +82,7 @@ module _ (file : Bor (List ℕ)) (known : Known) (last tag : ℕ) (content : Lis
 
     module _ (room : earlier.count < most) {bad : Bool} (looked : bad ≡ is_malformed known (tag_of kind) content) where
       malformed-is : is_malformed known tag content ≡ bad
-      malformed-is = ap (λ (t : ℕ). is_malformed known t content) at_kind ∙ sym looked
+      malformed-is = ap (λ (t : ℕ). is_malformed known t content) same_tag ∙ sym looked
 
       pub malformed_lem : bad ≡ true → Judged file.now known last tag content k (refused 4 k)
       unfolding first
@@ -86,7 +90,7 @@ module _ (file : Bor (List ℕ)) (known : Known) (last tag : ℕ) (content : Lis
 
       module _ (well : bad ≡ false) {taken : Bool} (compared : taken ≡ taken_in (tag_of kind) (contents_from earlier.count (drop earlier.from earlier.bytes.now)) content) where
         taken-is : is_taken file.now known tag content ≡ taken
-        taken-is = ap (λ (t : ℕ). is_taken file.now known t content) at_kind ∙ sym (rw (compared, found.0, found.1, found.2))
+        taken-is = ap (λ (t : ℕ). is_taken file.now known t content) same_tag ∙ sym (rw (compared, found.0, found.1, found.2))
 
         pub name_taken_lem : taken ≡ true → Judged file.now known last tag content k (refused 5 k)
         unfolding first

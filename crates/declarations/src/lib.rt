@@ -2,15 +2,15 @@
 
 #![tactic(auto)]
 
-ghost use Rattle.std.specs.Prelude.{◌≤◌, ◌≡◌, List, map, take, drop, get_or, true, false, MatchOption};
-ghost use Rattle.std.proofs.Math.Option.{none, some};
+ghost use Rattle.std.specs.Prelude.{◌≤◌, ◌≡◌, List, map, take, drop, get_or, true, false, MatchOption, IfOk};
+ghost use Rattle.std.proofs.Math.Option.{some};
 ghost use Rattle.meaning.specs.Lists.{any_of, same};
 ghost use Rattle.meaning.specs.Limits.{tag_of, most_of};
 ghost use Rattle.meaning.specs.Fields.{Field, whole};
 ghost use Rattle.meaning.specs.Refusals.{refusal, kind_of};
 ghost use Rattle.fields.specs.Found.{contents_from};
 ghost use Rattle.answers.specs.Refused.{answered};
-ghost use Rattle.declarations.specs.Kinds.{meant};
+ghost use Rattle.declarations.specs.Kinds.{meant, Decodes};
 ghost use Rattle.declarations.specs.Tests.{wrong_tag_after, is_laid, is_malformed, taken_in, field_answer, Stands, CountsFit, known_symbols, known_predicates};
 
 use answers::Refusal;
@@ -42,24 +42,31 @@ pub enum Kind {
     Query = meaning::QUERY_TAG as isize,
 }
 
-impl Kind {
-    // The kind of a tag, if it has one.
-    pub fn of(tag: u8) -> Option<Kind>
-        ensures { MatchOption result (kind_of tag ≡ none) (λ kind. kind_of tag ≡ some (meant kind)) }
-    {
+// A tag that no kind has.
+#[derive(Clone, Copy, PartialEq, Eq)]
+pub struct UnknownTag(pub u8);
+
+impl TryFrom<u8> for Kind {
+    type Error = UnknownTag;
+
+    ghost try_from_gives = { Decodes };
+
+    fn try_from(tag: u8) -> Result<Self, UnknownTag> {
         match tag {
-            meaning::SYMBOL_TAG => Some(Kind::Symbol),
-            meaning::TYPE_TAG => Some(Kind::Type),
-            meaning::PRODUCTION_TAG => Some(Kind::Production),
-            meaning::PREDICATE_TAG => Some(Kind::Predicate),
-            meaning::CLAUSE_TAG => Some(Kind::Clause),
-            meaning::QUERY_TAG => Some(Kind::Query),
-            _ => None,
+            meaning::SYMBOL_TAG => Ok(Kind::Symbol),
+            meaning::TYPE_TAG => Ok(Kind::Type),
+            meaning::PRODUCTION_TAG => Ok(Kind::Production),
+            meaning::PREDICATE_TAG => Ok(Kind::Predicate),
+            meaning::CLAUSE_TAG => Ok(Kind::Clause),
+            meaning::QUERY_TAG => Ok(Kind::Query),
+            _ => Err(UnknownTag(tag)),
         }
     }
+}
 
+impl Kind {
     // The place of the kind in arrays by tag.
-    fn index(self) -> usize
+    pub fn index(self) -> usize
         ensures { result ≡ tag_of (meant self) }
     {
         self as usize
@@ -80,12 +87,13 @@ impl Kind {
     }
 }
 
-// What reading keeps of the fields read so far. The first two go by tag; their place 0 is not used.
-#[derive(Clone, Copy)]
+// What reading keeps of the fields read so far: arrays of fixed length, since the library has no heap, apart from one another as `Knows` and the contracts
+// above name each. The first two go by tag; their place 0 is not used.
+#[derive(Clone, Copy, Default)]
 pub struct Known {
     // How many fields of each kind there are.
     pub counts: [u8; KINDS],
-    // Where the first field of each kind starts, 0 where there is none.
+    // Where the first field of each kind starts, 0 where there is none, as in `first_at`.
     pub starts: [usize; KINDS],
     // The arities of the symbols and of the predicates, with zeros behind them.
     pub symbols: [u8; meaning::MOST_SYMBOLS as usize],
@@ -135,7 +143,7 @@ fn kind_after(tag: u8, last: u8) -> Option<Kind>
     if tag < last {
         return None;
     }
-    Kind::of(tag)
+    Kind::try_from(tag).ok()
 }
 
 // Whether a content is as laid out for its kind, its length aside, by what is declared.
@@ -199,7 +207,7 @@ fn is_name_taken(earlier: &Section, kind: Kind, content: &[u8]) -> bool
     }
 }
 
-// The first of 3, 6, 4, 5 that fits field k, which has a tag and a content.
+// The kind of field k, which has a tag and a content, or the first of 3, 6, 4, 5 that fits it.
 pub fn judge_field(
     file: &[u8],
     content: &[u8],
@@ -207,9 +215,10 @@ pub fn judge_field(
     last: u8,
     known: &Known,
     k: usize,
-) -> Result<(), Refusal>
+) -> Result<Kind, Refusal>
     requires { CountsFit known.now }
-    ensures { (done : List Field) → Stands file.now known.now last done → answered result ≡ field_answer k (refusal done (whole tag content.now)) }
+    ensures kind { IfOk result (λ kind. tag ≡ tag_of (meant kind)) }
+    ensures answer { (done : List Field) → Stands file.now known.now last done → answered result ≡ field_answer k (refusal done (whole tag content.now)) }
 {
     let Some(kind) = kind_after(tag, last) else {
         return Err(Refusal::WrongTag(k));
@@ -224,5 +233,5 @@ pub fn judge_field(
     if is_name_taken(&earlier, kind, content) {
         return Err(Refusal::NameTaken(k));
     }
-    Ok(())
+    Ok(kind)
 }

@@ -2,21 +2,20 @@
 use Rattle.meaning.proofs.Prelude.{ℕ, ◌+◌, ◌≤◌, ◌<◌, zero, suc, ◌≡◌, refl, sym, ap, ◌∙◌, subst, subst₂, ◌≢◌, cond, Bool, not, List, [], ◌∷◌, ◌++◌, T}
 use Rattle.meaning.proofs.Prelude.{lit<, eqb-suc-zero, length, get_or, take, drop, zero-add, suc-ne-zero, add-one, arith}
 use Rattle.meaning.proofs.Definitions.{All, Kind, symbol, type, production, predicate, clause, query, tag_of, most_of, Field, whole, front, front_of}
-use Rattle.meaning.proofs.Definitions.{contents_of, Answer, arities_in, refused, accepted, ok, is_cut, refusal}
+use Rattle.meaning.proofs.Definitions.{contents_of, Answer, arities_in, refused, accepted, ok, is_cut, refusal, first_byte, refuse_if, no_constant}
 use Rattle.meaning.proofs.Answers.{fine-refusal}
 use Rattle.meaning.proofs.ByKind.{WellFields, tag_range, fine-well, fine-some}
 use Rattle.fields.specs.Found.{found_in}
-use Rattle.fields.specs.declared.Found.TheVariants.{Whole}
+use Rattle.fields.specs.declared.Found.{Found}
+use Rattle.fields.specs.declared.Found.TheVariants.{End, Cut, Whole}
 use Rattle.declarations.specs.declared.Known.{Known}
-use Rattle.declarations.specs.declared.Refusal.{Refusal}
 use Rattle.declarations.specs.Known.{Knows}
-use Rattle.declarations.specs.Refusal.{answer_of}
-use Rattle.fields.proofs.Fronts.{front-inside, front-content, found-whole}
-use Rattle.declarations.specs.Tests.{field_answer, Stands, CountsFit}
+use Rattle.fields.proofs.Fronts.{front-inside, front-content, found-whole, found-cut, found-end}
+use Rattle.declarations.specs.Tests.{known_symbols, field_answer, Stands, CountsFit}
 use Rattle.parser.specs.Read.{room_for, bytes_in, Outcome}
-use Rattle.declarations.proofs.Knowing.{count_of, length-arities}
+use Rattle.declarations.proofs.Knowing.{count_of, length-arities, known_symbols_lem}
 use Rattle.parser.proofs.Keeping.{length-padded}
-use Rattle.parser.proofs.Reached.{Reached, contents-found, chain_whole, chain_bytes, stop_field, reached-more}
+use Rattle.parser.proofs.Reached.{Reached, contents-found, chain_whole, chain_bytes, stop_cut, stop_end, stop_field, reached-more}
 
 -- a kind with room left finds room
 room_of : (k : Kind) (n : ℕ) → n < most_of k → n < room_for (tag_of k)
@@ -87,22 +86,74 @@ module _ (file : List ℕ) (at k last : ℕ) (known : Known) (done : List Field)
   in_file = let h = here in omega (arith, front-inside file at tag content_here h.rest h.is, h.size)
 
   -- its answer is the refusal of the field; a refusal ends the reading, else it goes on
-  module _ (v : Refusal) (answers : answer_of v ≡ field_answer k (refusal done (whole tag content_here))) where
-    pub refuses : T (not (ok (answer_of v))) → Outcome file (answer_of v) known
+  module _ {answer : Answer} (answers : answer ≡ field_answer k (refusal done (whole tag content_here))) where
+    pub refuses : T (not (ok answer)) → Outcome file answer known
     refuses t =
         let w = numbered-some k (refusal done (whole tag content_here)) (subst (λ (a : Answer). T (not (ok a))) answers t) in
         subst (λ (a : Answer). Outcome file a known) (sym (answers ∙ w.1))
         (stop_field file at k last known done r tag content_here here.rest here.is (refusal done (whole tag content_here)) refl w.0)
 
-    pub goes_on : T (ok (answer_of v)) → refusal done (whole tag content_here) ≡ 0
+    pub goes_on : T (ok answer) → refusal done (whole tag content_here) ≡ 0
     goes_on t = numbered-none k (refusal done (whole tag content_here)) (subst (λ (a : Answer). T (ok a)) answers t)
 
   pub again : (known' : Known)
       → refusal done (whole tag content_here) ≡ 0
       → Knows known' (done ++ (whole tag content_here ∷ []))
-      → Reached file (at + 3 + len) (k + 1) tag known' (done ++ (whole tag content_here ∷ []))
+      → Reached file (at + (3 + len)) (k + 1) tag known' (done ++ (whole tag content_here ∷ []))
   again known' e knows =
       let h = here in
-      let place : at + (3 + length content_here) ≡ at + 3 + len = omega (arith, h.size) in
+      let place : at + (3 + length content_here) ≡ at + (3 + len) = ap (λ (n : ℕ). at + (3 + n)) h.size in
       subst₂ (λ (i n : ℕ). Reached file i n tag known' (done ++ (whole tag content_here ∷ []))) place (sym (add-one k))
       (reached-more file at k last known done r tag content_here h.rest h.is known' e knows)
+
+-- A turn from what the loop keeps
+module _ {file : List ℕ} {at k last : ℕ} {known : Known} (kept : (done : List Field) × Reached file at k last known done) where
+  pub kept_fits : CountsFit known
+  kept_fits = within file at k last known kept.0 kept.1
+
+  module _ {f : Found} (found : f ≡ found_in (front_of (drop at file))) where
+    pub turn_cut : f ≡ Cut → Outcome file (refused 2 k) known
+    turn_cut is = stop_cut file at k last known kept.0 kept.1 (found-cut (front_of (drop at file)) (sym is ∙ found))
+
+    pub turn_end : f ≡ End → {answer : Answer} → answer ≡ refuse_if (no_constant (known_symbols known)) 7 k → Outcome file answer known
+    turn_end is e =
+        let end = stop_end file at k last known kept.0 kept.1 (found-end (front_of (drop at file)) (sym is ∙ found)) in
+        (e ∙ (ap (λ (ns : List ℕ). refuse_if (no_constant ns) 7 k) (known_symbols_lem known kept.0 kept.1.knows) ∙ end.0), end.1)
+
+    -- a whole field
+    module _ {tag len : ℕ} (is : f ≡ Whole tag len) where
+      pub turn_inside : at + 3 + len ≤ length file
+      turn_inside = in_file file at k last known kept.0 kept.1 tag len (sym is ∙ found)
+
+      -- with its answer
+      module _ {content : List ℕ} (read : content ≡ take len (drop (at + 3) file)) {answer : Answer} (judged : (done : List Field) → Stands file known last done → answer ≡ field_answer k (refusal done (whole tag content))) where
+        says : answer ≡ field_answer k (refusal kept.0 (whole tag (take len (drop (at + 3) file))))
+        says =
+            judged kept.0 (stands file at k last known kept.0 kept.1)
+            ∙ ap (λ (c : List ℕ). field_answer k (refusal kept.0 (whole tag c))) read
+
+        pub turn_refused : T (not (ok answer)) → Outcome file answer known
+        turn_refused = refuses file at k last known kept.0 kept.1 tag len (sym is ∙ found) says
+
+        module _ (fine : T (ok answer)) (kind : Kind) (tagged : tag ≡ tag_of kind) where
+          none : refusal kept.0 (whole tag (take len (drop (at + 3) file))) ≡ 0
+          none = goes_on file at k last known kept.0 kept.1 tag len (sym is ∙ found) says fine
+
+          pub turn_room : get_or known.counts (tag_of kind) 0 < room_for (tag_of kind)
+          turn_room = subst (λ (t : ℕ). get_or known.counts t 0 < room_for t) tagged (room file at k last known kept.0 kept.1 tag _ none).1
+
+          pub turn_again : {known' : Known} {first : ℕ} → first ≡ first_byte content
+              → ((done : List Field) (c : List ℕ)
+              → Knows known done
+              → All (λ f. T (not (is_cut f))) done
+              → bytes_in done ≡ at
+              → first_byte c ≡ first
+              → Knows known' (done ++ (whole (tag_of kind) c ∷ [])))
+              → (done : List Field) × Reached file (at + (3 + len)) (k + 1) tag known' done
+          turn_again {known'} first more = (
+            kept.0 ++ (whole tag (take len (drop (at + 3) file)) ∷ []),
+            again file at k last known kept.0 kept.1 tag len (sym is ∙ found) known' none
+                (subst (λ (t : ℕ). Knows known' (kept.0 ++ (whole t (take len (drop (at + 3) file)) ∷ []))) (sym tagged)
+                (more kept.0 (take len (drop (at + 3) file)) kept.1.knows (whole_fields file at k last known kept.0 kept.1) (bytes_read file at k last known kept.0 kept.1)
+                (sym (first ∙ ap first_byte read)))),
+          )
