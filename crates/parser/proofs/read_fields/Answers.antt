@@ -4,7 +4,7 @@ use Rattle.answers.proofs.Numbers.{numbered, handed_on}
 use Rattle.meaning.specs.Refusals.{Answer}
 use Rattle.parser.specs.Read.{Outcome}
 use Rattle.parser.proofs.Reached.{reached-none}
-use Rattle.parser.proofs.Turns.{kept_fits, turn_cut, turn_end, turn_inside, turn_refused, turn_room, turn_again}
+use Rattle.parser.proofs.Turns.{turn_fits, turn_cut, turn_end, turn_inside, turn_refused, turn_room, turn_again}
 use Rattle.parser.proofs.read_fields.Goals as goal
 
 pub loop-tag-init : goal.loop-tag-init
@@ -14,7 +14,7 @@ pub content-content-requires : goal.content-content-requires
 content-content-requires c = turn_inside c.loop-tag.invariant c.field_at.ensures c.in-Whole.is
 
 pub judge_field-requires : goal.judge_field-requires
-judge_field-requires c = kept_fits c.loop-tag.invariant
+judge_field-requires c = turn_fits c.loop-tag.invariant
 
 pub returns-in_err-kind-in-Whole : goal.returns-in_err-kind-in-Whole
 returns-in_err-kind-in-Whole c = let e = c.in_err-kind-in-Whole in
@@ -40,7 +40,7 @@ pub returns-in-Cut : goal.returns-in-Cut
 returns-in-Cut c = turn_cut c.loop-tag.invariant c.field_at.ensures c.in-Cut.is
 
 pub ending-requires : goal.ending-requires
-ending-requires c = kept_fits c.loop-tag.invariant
+ending-requires c = turn_fits c.loop-tag.invariant
 
 pub returns-in-End : goal.returns-in-End
 returns-in-End c = turn_end c.loop-tag.invariant c.field_at.ensures c.in-End.is c.ending.ensures
