@@ -1,15 +1,10 @@
 -- What is handed on of a file that is accepted.
-use Rattle.std.specs.Prelude.{◌≡◌, ℕ, List, length}
+use Rattle.std.specs.Prelude.{◌≡◌, ℕ, List}
 use Rattle.meaning.specs.Refusals.{accepted}
 use Rattle.meaning.specs.Files.{file_answer}
 use Rattle.meaning.specs.Calls.{states_of}
 use Rattle.declarations.specs.declared.Known.{Known}
 use Rattle.declarations.specs.Known.{Knows, fields_read}
-use Rattle.acceptance.specs.declared.Listed.{Listed}
-use Rattle.states.specs.Packed.{padded_states}
-
-abbrev pub listed : List ℕ → Listed
-listed l = record { count = length l; sets = padded_states l }
 
 -- an accepted file, with what is known of it and its states
 pub record IsAccepted (file : List ℕ) (known : Known) (states : List ℕ) : Type 0 where

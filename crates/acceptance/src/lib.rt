@@ -2,39 +2,25 @@
 
 #![tactic(auto)]
 
-ghost use Rattle.std.specs.Prelude.{◌≡◌, ◌≤◌, length, take, drop, sum, IfOk};
+ghost use Rattle.std.specs.Prelude.{◌≡◌, ◌≤◌, length, drop, sum, IfOk};
 ghost use Rattle.meaning.specs.Files.{read_answer, file_answer};
 ghost use Rattle.meaning.specs.Calls.{states_of, tables_of, written};
 ghost use Rattle.declarations.specs.Known.{Knows, fields_read};
 ghost use Rattle.answers.specs.Refused.{answered};
-ghost use Rattle.acceptance.specs.Accepted.{listed, IsAccepted};
+ghost use Rattle.states.specs.Packed.{held};
+ghost use Rattle.acceptance.specs.Accepted.{IsAccepted};
 
 use answers::Refusal;
 use declarations::{Kind, Known};
+use evaluation::{Automaton, Predicates};
 use parser::Reading;
-
-// The states of a file, rising, with zeros behind them.
-#[derive(Clone, Copy)]
-pub struct Listed {
-    pub count: usize,
-    pub sets: [u16; meaning::MOST_STATES],
-}
-
-impl Listed {
-    // The states.
-    pub fn as_slice(&self) -> &[u16]
-        requires { self.now.count ≤ 16 }
-        ensures { result.now ≡ take self.now.count self.now.sets }
-    {
-        &self.sets[..self.count]
-    }
-}
+use states::{States, TooMany};
 
 // What was read of a file, and its states, or why it is refused.
 #[derive(Clone, Copy)]
 pub struct Acceptance {
     pub known: Known,
-    pub states: Result<Listed, Refusal>,
+    pub states: Result<States, Refusal>,
 }
 
 // An accepted file, with what is known of it and its states.
@@ -45,6 +31,14 @@ pub struct Accepted<'a> {
     pub states: &'a [u16],
 }
 
+// What is handed on of an accepted file once its tables are written: with its automaton and its predicates.
+#[derive(Clone, Copy)]
+pub struct HandedFile<'a> {
+    pub accepted: Accepted<'a>,
+    pub automaton: Automaton<'a>,
+    pub predicates: Predicates<'a>,
+}
+
 // How many fields were read.
 fn field_count(known: &Known) -> usize
     ensures { result ≡ sum (drop 1 known.now.counts) }
@@ -53,25 +47,23 @@ fn field_count(known: &Known) -> usize
 }
 
 // The states of a file, if it is accepted.
-fn states_of(file: &[u8], reading: &Reading) -> Result<Listed, Refusal>
+fn states_of(file: &[u8], reading: &Reading) -> Result<States, Refusal>
     requires { (answered reading.now.outcome ≡ read_answer file.now) × Knows reading.now.known (fields_read file.now) }
     ensures answer { answered result ≡ file_answer file.now }
-    ensures states { IfOk result (λ s. s ≡ listed (states_of file.now)) }
+    ensures states { IfOk result (λ s. s ≡ held (states_of file.now)) }
 {
     reading.outcome?;
     let known = &reading.known;
     let section = known.section(file, Kind::Production);
-    let found = states::determinise(section.bytes, section.from, section.count, known.symbols());
-    let sets = found.sets;
-    match found.count {
-        states::Count::Known(count) => Ok(Listed { count, sets }),
-        states::Count::TooMany => Err(Refusal::TooManyStates(field_count(known))),
+    match states::determinise(&section, known.symbols()) {
+        Ok(states) => Ok(states),
+        Err(TooMany) => Err(Refusal::TooManyStates(field_count(known))),
     }
 }
 
 // What was read of a file, and its states, or why it is refused.
 pub fn accept(file: &[u8]) -> Acceptance
-    ensures { (answered result.states ≡ file_answer file.now) × Knows result.known (fields_read file.now) × IfOk result.states (λ s. s ≡ listed (states_of file.now)) }
+    ensures { (answered result.states ≡ file_answer file.now) × Knows result.known (fields_read file.now) × IfOk result.states (λ s. s ≡ held (states_of file.now)) }
 {
     let reading = parser::read(file);
     let states = states_of(file, &reading);
@@ -86,12 +78,5 @@ pub fn write_file_tables(buffer: &mut [u8], accepted: &Accepted)
 {
     let known = accepted.known;
     let section = known.section(accepted.file, Kind::Production);
-    states::write_tables(
-        buffer,
-        accepted.states,
-        known.symbols(),
-        section.bytes,
-        section.from,
-        section.count,
-    );
+    states::write_tables(buffer, accepted.states, known.symbols(), &section);
 }

@@ -1,10 +1,10 @@
 -- `acceptance::states_of` meets its contract: what is known of the file is what determinising asks for. Assumes nothing.
-use Rattle.meaning.proofs.Prelude.{◌≡◌, refl, sym, ap, ◌∙◌, length, le-ltb, lt-ltb}
-use Rattle.meaning.proofs.Definitions.{refused, states_of, accepted, read_answer}
+use Rattle.meaning.proofs.Prelude.{◌≡◌, sym, ap, ◌∙◌, length}
+use Rattle.meaning.proofs.Definitions.{refused, fields, states_of, accepted, read_answer}
 use Rattle.std.proofs.lemmas.Result.{err_from_is_err_and}
 use Rattle.answers.specs.Refused.{answered}
 use Rattle.declarations.specs.Tests.{known_types}
-use Rattle.states.proofs.Packed.{known_is, many_is}
+use Rattle.states.proofs.Packed.{known_is, packed-answer}
 use Rattle.states.specs.Packed.{packed}
 use Rattle.acceptance.proofs.Ready.{symbols-counted, asked, states_asked, field_count_lem}
 use Rattle.acceptance.proofs.Answering.{refused-answer, read_answer_lem}
@@ -22,30 +22,27 @@ read c = sym c.requires.0 ∙ ap answered c.in_ok-reading.was
 pub symbols-requires : goal.symbols-requires
 symbols-requires c = symbols-counted c.args.file.now c.args.reading.now.known (read (goal.at.symbols-requires c).In_ok-reading) c.requires.1
 
-pub determinise-found-requires : goal.determinise-found-requires
-determinise-found-requires c = let s = c.section-section.ensures in
-    (_, asked c.args.file.now c.args.reading.now.known (read (goal.at.determinise-found-requires c).In_ok-reading) c.requires.1 (λ i. (s.0 i).now) s.1 s.2 c.symbols.ensures)
+pub determinise-requires : goal.determinise-requires
+determinise-requires c = let s = c.section-section.ensures in
+    (_, asked c.args.file.now c.args.reading.now.known (read (goal.at.determinise-requires c).In_ok-reading) c.requires.1 (λ i. (s.0 i).now) s.1 s.2 c.symbols.ensures)
 
-pub returns-in-Known : goal.returns-in-Known
-returns-in-Known c = let s = c.section-section.ensures in
+pub returns-in-Ok : goal.returns-in-Ok
+returns-in-Ok c = let s = c.section-section.ensures in
     let file = c.args.file.now in
     let known = c.args.reading.now.known in
-    let r = read (goal.at.returns-in-Known c).In_ok-reading in
-    let a = asked file known r c.requires.1 (λ i. (s.0 i).now) s.1 s.2 c.symbols.ensures in
-    let e = (c.determinise-found.ensures (known_types known) a).0 ∙ ap packed (states_asked file known r c.requires.1 (λ i. (s.0 i).now) s.1 s.2 c.symbols.ensures) in
-    let k = known_is (states_of file) e c.in-Known.is in record {
-      answer = rw (le-ltb 16 (length (states_of file)) k.1) refl ∙ sym (read_answer_lem file r);
+    let r = read (goal.at.returns-in-Ok c).In_ok-reading in
+    let e = (c.in-Ok.ensures (known_types known) (asked file known r c.requires.1 (λ i. (s.0 i).now) s.1 s.2 c.symbols.ensures)).0 ∙ ap packed (states_asked file known r c.requires.1 (λ i. (s.0 i).now) s.1 s.2 c.symbols.ensures) in
+    let k = known_is (states_of file) e in record {
+      answer = packed-answer (states_of file) e (length (fields file)) ∙ sym (read_answer_lem file r);
       states = λ i. record { count = k.0 i; sets = k.2 i };
     }
 
-pub returns-in-TooMany : goal.returns-in-TooMany
-returns-in-TooMany c = let s = c.section-section.ensures in
+pub returns-in-Err : goal.returns-in-Err
+returns-in-Err c = let s = c.section-section.ensures in
     let file = c.args.file.now in
     let known = c.args.reading.now.known in
-    let r = read (goal.at.returns-in-TooMany c).In_ok-reading in
-    let a = asked file known r c.requires.1 (λ i. (s.0 i).now) s.1 s.2 c.symbols.ensures in
-    let e = (c.determinise-found.ensures (known_types known) a).0 ∙ ap packed (states_asked file known r c.requires.1 (λ i. (s.0 i).now) s.1 s.2 c.symbols.ensures) in
-    let k = many_is (states_of file) e c.in-TooMany.is in record {
-      answer = ap (refused 8) (c.field_count.ensures ∙ field_count_lem file known r c.requires.1) ∙ rw (lt-ltb 16 (length (states_of file)) k.0) refl ∙ sym (read_answer_lem file r);
+    let r = read (goal.at.returns-in-Err c).In_ok-reading in
+    let e = (c.in-Err.ensures (known_types known) (asked file known r c.requires.1 (λ i. (s.0 i).now) s.1 s.2 c.symbols.ensures)).0 ∙ ap packed (states_asked file known r c.requires.1 (λ i. (s.0 i).now) s.1 s.2 c.symbols.ensures) in record {
+      answer = ap (refused 8) (c.field_count.ensures ∙ field_count_lem file known r c.requires.1) ∙ packed-answer (states_of file) e (length (fields file)) ∙ sym (read_answer_lem file r);
       states = tt;
     }
