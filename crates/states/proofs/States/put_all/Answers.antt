@@ -1,8 +1,5 @@
 -- The goals that are not found.
 use Rattle.meaning.proofs.Prelude.{ℕ, ◌≡◌, sym, ap, ◌∙◌, List, [], ◌∷◌, ◌++◌, append-nil, append_assoc, take}
-use Rattle.meaning.proofs.Definitions.{insert_all}
-use Rattle.std.proofs.lemmas.List.{nil_from_length}
-use Rattle.states.specs.Packed.{packed}
 use Rattle.states.proofs.Putting.{answer-packed, put_passed, put_over}
 use Rattle.states.proofs.Packed.{length_held, packed_holds, is_many}
 use Rattle.states.proofs.States.put_all.Goals as goal
@@ -31,9 +28,3 @@ returns-in_err-known c = let known = c.loop-set.invariant in
     let rest = c.next.new.self.iter.rest.now in
     let split = known.1 ∙ ap (λ (l : List ℕ). l ++ known.0) c.in-Some.ensures.steps ∙ append_assoc rest (x ∷ []) known.0 in
     is_many many c.from_residual.ensures.0 ∙ put_over _ x known.0 known.2 rest split c.in_err-known.ensures many
-
-pub returns : goal.returns
-returns c = let known = c.loop-set.invariant in
-    let self = c.args.self in
-    let all = known.1 ∙ ap (λ (l : List ℕ). l ++ known.0) (nil_from_length c.loop-set.set-iterator.iter.rest.now c.in-None.ensures.steps.0) in
-    known.2 ∙ ap (λ (k : List ℕ). packed (insert_all k (take self.count self.sets))) (sym all)
