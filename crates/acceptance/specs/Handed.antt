@@ -14,7 +14,7 @@ use Rattle.declarations.specs.Known.{Knows, fields_read}
 use Rattle.declarations.specs.Tests.{known_symbols, known_predicates}
 use Rattle.acceptance.specs.declared.HandedFile.{HandedFile}
 use Rattle.evaluation.specs.Masks.{stage_masks, both_masks}
-use Rattle.evaluation.specs.Programs.{code_size, plan_size}
+use Rattle.evaluation.specs.declared.Program.{Program}
 use Rattle.evaluation.specs.Asking.{query_of}
 
 -- what is handed on of an accepted file: its arities, states and tables
@@ -34,9 +34,8 @@ pub record IsHanded (h : HandedFile) : Type 0 where
   pub states_are : h.accepted.states.now ≡ states_of h.accepted.file.now
 
 -- buffers that are lent for the programs, the masks and the sets of marked atoms: large enough, and the sets empty
-pub record EngineBuffers (known : Known) (preds codes plans masks heads : List ℕ) : Type 0 where
-  pub coded : get_or known.counts 5 0 * code_size ≤ length codes
-  pub planned : get_or known.counts 5 0 * plan_size ≤ length plans
+pub record EngineBuffers (known : Known) (preds : List ℕ) (programs : List Program) (masks heads : List ℕ) : Type 0 where
+  pub compiled : get_or known.counts 5 0 ≤ length programs
   pub masked : length preds * both_masks ≤ length masks
   pub noted : length preds * stage_masks ≤ length heads
   pub empty : (i : ℕ) → get_or heads i 0 ≡ 0
