@@ -1,39 +1,36 @@
 -- The answer to a file by the answer to reading it and the number of its states. Assumes nothing.
-use Rattle.meaning.proofs.Prelude.{ℕ, ◌≡◌, refl, sym, ap, ◌≢◌, cond, List, [], ltb, length, arith, ne_eqb}
-use Rattle.meaning.proofs.Definitions.{most_states, fields, Answer, refuse_if, accepted, ok, read_answer, file_answer, states_of, symbol_arities}
+use Rattle.meaning.proofs.Prelude.{ℕ, ◌≡◌, sym, ap, ◌∙◌, ◌≢◌, List, ltb, length, arith}
+use Rattle.meaning.proofs.Definitions.{most_states, fields, Answer, refuse_if, accepted, read_answer, file_answer, states_of, symbol_arities}
 use Rattle.meaning.proofs.Answers.{then_next, then_first}
-use Rattle.declarations.specs.declared.Refusal.{Refusal}
-use Rattle.declarations.specs.declared.Refusal.TheVariants.{None, TooLong, Cut, WrongTag, Malformed, NameTaken, TooMany, NoConstant}
-use Rattle.declarations.specs.Refusal.{answer_of}
-use Rattle.states.specs.Packed.{packed}
-use Rattle.acceptance.specs.Accepted.{states_given}
+use Rattle.answers.specs.declared.Refusal.{Refusal}
+use Rattle.answers.specs.declared.Refusal.TheVariants.{TooLong, Cut, WrongTag, Malformed, NameTaken, TooMany, NoConstant, TooManyStates, BufferTooShort}
+use Rattle.answers.specs.declared.Refusal.TheVariants.{SheetMisplaced, SheetStatesDiffer, SheetWrongAtom, SheetNotClosed, SheetBufferTooShort}
+use Rattle.answers.specs.Refused.{refusal_answer}
 
--- a refusal without a number is none
-pub accepts : (v : Refusal) → (answer_of v).number ≡ 0 → answer_of v ≡ accepted
-accepts None e = refl
-accepts TooLong e = absurd (omega arith)
-accepts (Cut k) e = absurd (omega arith)
-accepts (WrongTag k) e = absurd (omega arith)
-accepts (Malformed k) e = absurd (omega arith)
-accepts (NameTaken k) e = absurd (omega arith)
-accepts (TooMany k) e = absurd (omega arith)
-accepts (NoConstant k) e = absurd (omega arith)
+-- a refusal has a number
+pub refusal_number : (r : Refusal) → (refusal_answer r).number ≢ 0
+refusal_number TooLong z = absurd (omega arith)
+refusal_number (Cut k) z = absurd (omega arith)
+refusal_number (WrongTag k) z = absurd (omega arith)
+refusal_number (Malformed k) z = absurd (omega arith)
+refusal_number (NameTaken k) z = absurd (omega arith)
+refusal_number (TooMany k) z = absurd (omega arith)
+refusal_number (NoConstant k) z = absurd (omega arith)
+refusal_number (TooManyStates k) z = absurd (omega arith)
+refusal_number BufferTooShort z = absurd (omega arith)
+refusal_number (SheetMisplaced k) z = absurd (omega arith)
+refusal_number (SheetStatesDiffer k) z = absurd (omega arith)
+refusal_number (SheetWrongAtom k) z = absurd (omega arith)
+refusal_number (SheetNotClosed k) z = absurd (omega arith)
+refusal_number SheetBufferTooShort z = absurd (omega arith)
 
 module _ (file : List ℕ) where
   -- refused with 1 to 7
-  pub refused-answer : (read_answer file).number ≢ 0 → read_answer file ≡ file_answer file
+  pub refused-answer : (r : Refusal) → refusal_answer r ≡ read_answer file → refusal_answer r ≡ file_answer file
   unfolding file_answer
-  refused-answer h = sym (then_first (read_answer file) _ h)
-
-  pub refused-states : (read_answer file).number ≢ 0 → packed [] ≡ states_given file
-  unfolding states_given
-  refused-states h = sym (ap (λ b. cond b (packed (states_of file)) (packed [])) (ne_eqb (read_answer file).number 0 h))
+  refused-answer r e = e ∙ sym (then_first (read_answer file) _ (λ z. refusal_number r (ap (λ (a : Answer). a.number) e ∙ z)))
 
   -- read
-  pub read-states : read_answer file ≡ accepted → packed (states_of file) ≡ states_given file
-  unfolding states_given
-  read-states e = sym (ap (λ (a : Answer). cond (ok a) (packed (states_of file)) (packed [])) e)
-
   pub read_answer_lem : read_answer file ≡ accepted → file_answer file ≡ refuse_if (ltb most_states (length (states_of file))) 8 (length (fields file))
   unfolding file_answer states_of symbol_arities
   read_answer_lem e = then_next (read_answer file) _ (ap (λ (a : Answer). a.number) e)

@@ -1,30 +1,36 @@
--- What is kept of a file that is not refused: it is accepted, and as many of the sets as there are states are its states. Assumes nothing.
-use Rattle.meaning.proofs.Prelude.{ℕ, List, ◌≤◌, ◌≡◌, sym, ap, ◌∙◌, length, take, arith}
+-- What is kept of a file that is not refused: it is accepted, and the sets are its states. Assumes nothing.
+use Rattle.meaning.proofs.Prelude.{ℕ, List, ◌≤◌, ◌≡◌, refl, sym, ap, ◌∙◌, subst, length, take, arith}
 use Rattle.meaning.proofs.Definitions.{most_states, accepted, file_answer, states_of}
-use Rattle.meaning.proofs.Answers.{zero-accepted}
-use Rattle.meaning.specs.Refusals as meant
-use Rattle.answers.specs.declared.Answer.{Answer}
-use Rattle.answers.specs.Answered.{answered}
+use Rattle.std.specs.Prelude.{Result, Ok, Err, IfOk}
+use Rattle.answers.specs.declared.Refusal.{Refusal}
+use Rattle.answers.specs.Refused.{answered, refusal_answer}
+use Rattle.declarations.specs.Known.{Knows, fields_read}
 use Rattle.states.specs.declared.States.{States}
-use Rattle.states.specs.Packed.{packed, count_of}
-use Rattle.states.proofs.Packed.{count_fits, counted_sets}
-use Rattle.parser.proofs.Limits.{accepted-read, accepted-few}
-use Rattle.acceptance.specs.Accepted.{states_given}
-use Rattle.acceptance.proofs.Answering.{read-states}
+use Rattle.states.specs.Packed.{held}
+use Rattle.states.proofs.Packed.{take-padded}
+use Rattle.parser.proofs.Limits.{accepted-few}
+use Rattle.acceptance.specs.declared.Acceptance.{Acceptance}
+use Rattle.acceptance.specs.Accepted.{IsAccepted}
 
-module _ (file : List ℕ) (answer : Answer) (e : answered answer ≡ file_answer file) (z : answer.number ≡ 0) where
-  pub is_accepted : file_answer file ≡ accepted
-  is_accepted = zero-accepted file (sym (ap (λ (a : meant.Answer). a.number) e) ∙ z)
+module _ (file : List ℕ) (a : Acceptance) (e : (answered a.states ≡ file_answer file) × Knows a.known (fields_read file) × IfOk a.states (λ s. s ≡ held (states_of file))) where
+  module _ {states : States} (was : a.states ≡ Ok states) where
+    is_accepted : file_answer file ≡ accepted
+    is_accepted = sym e.0 ∙ ap answered was
 
-  module _ (states : States) (given : states ≡ states_given file) (m : ℕ) (count : m ≡ count_of states) where
-    states_are : states ≡ packed (states_of file)
-    states_are = given ∙ sym (read-states file (accepted-read file is_accepted))
+    is : states ≡ held (states_of file)
+    is = subst (λ (r : Result States Refusal). IfOk r (λ s. s ≡ held (states_of file))) was e.2
 
-    few : length (states_of file) ≤ most_states
-    few = accepted-few file is_accepted
+    pub states-few : states.count ≤ most_states
+    states-few = omega (arith, ap (λ (s : States). s.count) is, accepted-few file is_accepted)
 
-    pub sets_fit : m ≤ length states.sets
-    sets_fit = omega (arith, count, count_fits (states_of file) few states_are)
+    -- what the calls hand on
+    pub kept : {sets : List ℕ} → sets ≡ take states.count states.sets → IsAccepted file a.known sets
+    kept cut =
+        record {
+          answer = is_accepted;
+          knows = e.1;
+          states_are = cut ∙ (ap (λ (s : States). take s.count s.sets) is ∙ take-padded (states_of file) (length (states_of file)) refl);
+        }
 
-    pub sets_are : take m states.sets ≡ states_of file
-    sets_are = ap (λ (n : ℕ). take n states.sets) count ∙ counted_sets (states_of file) few states_are
+  pub refused-with : {refusal : Refusal} → a.states ≡ Err refusal → refusal_answer refusal ≡ file_answer file
+  refused-with was = sym (ap answered was) ∙ e.0

@@ -3,3 +3,4 @@ pub mod Answering
 pub mod Handed
 pub mod Handing
 pub mod Kept
+pub mod Asked

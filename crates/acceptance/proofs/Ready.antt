@@ -1,9 +1,10 @@
 -- What is known of a file that was read is what determinising asks for, and gives the file's states and tables. Assumes nothing.
-use Rattle.meaning.proofs.Prelude.{ℕ, ◌+◌, ◌≤◌, ◌≡◌, sym, ap, ◌∙◌, subst, subst₂, List, [], ◌∷◌, map, T, lit<, length, length-append, length-map}
-use Rattle.meaning.proofs.Prelude.{get_or, arith}
-use Rattle.meaning.proofs.Definitions.{All, symbol, type, production, most_of, most_symbol_arity, Field, fields, contents_of, is_production, accepted}
+use Rattle.meaning.proofs.Prelude.{ℕ, ◌+◌, ◌≤◌, ◌≡◌, sym, ap, ◌∙◌, subst, subst₂, ap₂, List, [], ◌∷◌, ◌++◌, map, T, lit<, length, length-append, length-map}
+use Rattle.meaning.proofs.Prelude.{get_or, drop, arith}
+use Rattle.std.specs.Prelude.{sum}
+use Rattle.meaning.proofs.Definitions.{All, symbol, type, production, most_symbol_arity, Field, fields, contents_of, is_production, accepted}
 use Rattle.meaning.proofs.Definitions.{contents, arities_in, types_in, first_byte, WellProduction, step, cells, tables, read_answer, states_for}
-use Rattle.meaning.proofs.Definitions.{production_of, states_of, tables_of, symbol_arities, step_of}
+use Rattle.meaning.proofs.Definitions.{production_of, states_of, tables_of, written, symbol_arities, step_of}
 use Rattle.meaning.proofs.Lists.{All-map}
 use Rattle.meaning.proofs.Contents.{is_named-exact}
 use Rattle.meaning.proofs.ByKind.{TagsRise, rising-by_tag}
@@ -13,11 +14,9 @@ use Rattle.declarations.specs.declared.Known.{Known}
 use Rattle.declarations.specs.Known.{Knows, fields_read}
 use Rattle.declarations.specs.Tests.{known_types, known_symbols, earlier_in}
 use Rattle.declarations.proofs.Knowing.{length-arities, count_of, known_types_lem, known_symbols_lem}
-use Rattle.parser.proofs.Keeping.{length-padded}
 use Rattle.parser.proofs.Whole.{well, knows_all, earlier, reads}
 use Rattle.automaton.specs.Marking.{AreProductions}
-use Rattle.states.specs.Asked.{Limited, Determinable}
-use Rattle.acceptance.specs.Accepted.{fields_known}
+use Rattle.states.specs.Asked.{Limited, Determinable, productions_at}
 
 -- fields with rising tags are as many as there are of the six kinds
 rising-length : (fs : List Field) → TagsRise 1 7 fs
@@ -40,23 +39,12 @@ module _ (file : List ℕ) (known : Known) (e : read_answer file ≡ accepted) (
   types_are : known_types known ≡ types_in fs
   types_are = known_types_lem known fs (knows_all file known e knows)
 
-  pub field_count_lem : fields_known known ≡ length (fields file)
-  field_count_lem =
-      let n = count_of known fs (knows_all file known e knows) in
-      omega (arith, n 1 (lit< tt), n 2 (lit< tt), n 3 (lit< tt), n 4 (lit< tt), n 5 (lit< tt), n 6 (lit< tt), rising-length fs (well file known e knows).rising)
+  pub field_count_lem : sum (drop 1 known.counts) ≡ length (fields file)
+  field_count_lem = ap (λ (counts : List ℕ). sum (drop 1 counts)) (knows_all file known e knows).counts ∙ omega (arith, rising-length fs (well file known e knows).rising)
 
   -- the arities of the symbols stand in their array
-  pub symbols_fit : get_or known.counts 1 0 ≤ length known.symbols
-  symbols_fit =
-      let all = knows_all file known e knows in
-      let few = (well file known e knows).counts symbol in
-      omega (
-        arith,
-        count_of known fs all 1 (lit< tt),
-        few,
-        ap length all.symbols,
-        length-padded (most_of symbol) (arities_in symbol fs) (subst (λ (n : ℕ). n ≤ most_of symbol) (sym (length-arities symbol fs)) few),
-      )
+  pub symbols-counted : get_or known.counts 1 0 ≤ 24
+  symbols-counted = omega (arith, count_of known fs (knows_all file known e knows) 1 (lit< tt), (well file known e knows).counts symbol)
 
   pub limited : Limited (known_symbols known) (known_types known)
   limited =
@@ -80,7 +68,7 @@ module _ (file : List ℕ) (known : Known) (e : read_answer file ≡ accepted) (
             (subst₂ (λ (n : ℕ) (ss : List ℕ). All (WellProduction n ss) (map production_of (contents production fs))) (sym types_are) (sym symbols_are_lem) (read-productions fs w).1);
       }
 
-  pub determinable : Determinable file (get_or known.starts 3 0) (get_or known.counts 3 0) (known_symbols known) (known_types known)
+  determinable : Determinable file (get_or known.starts 3 0) (get_or known.counts 3 0) (known_symbols known) (known_types known)
   determinable = record { limited = limited; productions = productions }
 
   -- the states and the tables by what is known are the file's
@@ -95,3 +83,20 @@ module _ (file : List ℕ) (known : Known) (e : read_answer file ≡ accepted) (
   pub tables-length : length (tables_of file) ≡ cells (length (states_of file)) (known_symbols known)
   tables-length =
       ap length (sym tables_are) ∙ length-tables (step (map production_of (earlier_in file known 3)) (known_types known)) (states_of file) (known_symbols known)
+
+  -- the section of the productions, and the arities of the symbols
+  module _ {bytes arities : List ℕ} {from count : ℕ} (b : bytes ≡ file) (f : from ≡ get_or known.starts 3 0) (n : count ≡ get_or known.counts 3 0) (a : arities ≡ known_symbols known) where
+    pub asked : Determinable bytes from count arities (known_types known)
+    asked =
+        subst₂ (λ (l : List ℕ) (k : ℕ). Determinable l k count arities (known_types known)) (sym b) (sym f)
+        (subst₂ (λ (k : ℕ) (l : List ℕ). Determinable file (get_or known.starts 3 0) k l (known_types known)) (sym n) (sym a) determinable)
+
+    pub states_asked : states_for arities (known_types known) (productions_at bytes from count) ≡ states_of file
+    states_asked = (λ i. states_for (a i) (known_types known) (productions_at (b i) (f i) (n i))) ∙ states_are_lem
+
+    pub tables_asked : {states : List ℕ} (buffer : List ℕ)
+        → states ≡ states_of file
+        → tables (step (productions_at bytes from count) (known_types known)) states arities ++ drop (cells (length states) arities) buffer ≡ written (tables_of file) buffer
+    tables_asked buffer is =
+        (λ i. tables (step (productions_at (b i) (f i) (n i)) (known_types known)) (is i) (a i) ++ drop (cells (length (is i)) (a i)) buffer)
+        ∙ ap₂ (λ (t : List ℕ) (k : ℕ). t ++ drop k buffer) tables_are (sym tables-length)

@@ -1,17 +1,13 @@
--- What is handed on of a file: the number of its fields, its states.
-use Rattle.std.specs.Prelude.{ℕ, ◌+◌, cond, List, [], get_or}
-use Rattle.meaning.specs.Refusals as meant
-use Rattle.meaning.specs.Files.{read_answer}
+-- What is handed on of a file that is accepted.
+use Rattle.std.specs.Prelude.{◌≡◌, ℕ, List}
+use Rattle.meaning.specs.Refusals.{accepted}
+use Rattle.meaning.specs.Files.{file_answer}
 use Rattle.meaning.specs.Calls.{states_of}
 use Rattle.declarations.specs.declared.Known.{Known}
-use Rattle.states.specs.declared.States.{States}
-use Rattle.states.specs.Packed.{packed}
+use Rattle.declarations.specs.Known.{Knows, fields_read}
 
--- as many fields as there are of the six kinds
-abbrev pub fields_known : Known → ℕ
-fields_known known =
-    get_or known.counts 1 0 + get_or known.counts 2 0 + get_or known.counts 3 0 + get_or known.counts 4 0 + get_or known.counts 5 0 + get_or known.counts 6 0
-
--- the states of a file that is read; none of a file that is refused with 1 to 7
-unfoldable pub states_given : List ℕ → States
-states_given file = cond (meant.ok (read_answer file)) (packed (states_of file)) (packed [])
+-- an accepted file, with what is known of it and its states
+pub record IsAccepted (file : List ℕ) (known : Known) (states : List ℕ) : Type 0 where
+  pub answer : file_answer file ≡ accepted
+  pub knows : Knows known (fields_read file)
+  pub states_are : states ≡ states_of file

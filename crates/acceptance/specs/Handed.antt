@@ -12,6 +12,7 @@ use Rattle.meaning.specs.Calls.{states_of, tables_of, written}
 use Rattle.declarations.specs.declared.Known.{Known}
 use Rattle.declarations.specs.Known.{Knows, fields_read}
 use Rattle.declarations.specs.Tests.{known_symbols, known_predicates}
+use Rattle.acceptance.specs.declared.HandedFile.{HandedFile}
 use Rattle.evaluation.specs.Masks.{stage_masks, both_masks}
 use Rattle.evaluation.specs.Programs.{code_size, plan_size}
 use Rattle.evaluation.specs.Asking.{query_of}
@@ -26,6 +27,11 @@ pub record Handed (file : List ℕ) (known : Known) (symbols preds : List ℕ) (
   pub begin : Starts m symbols starts
   pub segment : Starts m preds segments
   pub table : tables ≡ written (tables_of file) tables
+
+-- the same of what the code hands on, with the file's states
+pub record IsHanded (h : HandedFile) : Type 0 where
+  pub handed : Handed h.accepted.file.now h.accepted.known.now h.automaton.arities.now h.predicates.arities.now h.automaton.m h.automaton.starts.now h.predicates.segments.now h.automaton.tables.now
+  pub states_are : h.accepted.states.now ≡ states_of h.accepted.file.now
 
 -- buffers that are lent for the programs, the masks and the sets of marked atoms: large enough, and the sets empty
 pub record EngineBuffers (known : Known) (preds codes plans masks heads : List ℕ) : Type 0 where

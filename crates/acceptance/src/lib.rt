@@ -2,137 +2,81 @@
 
 #![tactic(auto)]
 
-ghost use Rattle.std.specs.Prelude.{◌≡◌, [], ℕ, ◌≤◌, ltb, length};
-ghost use Rattle.meaning.specs.Limits.{most_states};
-ghost use Rattle.meaning.specs.Refusals.{accepted, refuse_if};
+ghost use Rattle.std.specs.Prelude.{◌≡◌, ◌≤◌, length, drop, sum, IfOk};
 ghost use Rattle.meaning.specs.Files.{read_answer, file_answer};
 ghost use Rattle.meaning.specs.Calls.{states_of, tables_of, written};
 ghost use Rattle.declarations.specs.Known.{Knows, fields_read};
-ghost use Rattle.declarations.specs.Refusal.{answer_of};
-ghost use Rattle.states.specs.Packed.{packed, count_answer};
-ghost use Rattle.answers.specs.Answered.{answered};
-ghost use Rattle.acceptance.specs.Accepted.{fields_known, states_given};
+ghost use Rattle.answers.specs.Refused.{answered};
+ghost use Rattle.states.specs.Packed.{held};
+ghost use Rattle.acceptance.specs.Accepted.{IsAccepted};
 
-use answers::Answer;
-use declarations::{Known, Refusal};
-use states::{Count, States};
+use answers::Refusal;
+use declarations::{Kind, Known};
+use evaluation::{Automaton, Predicates};
+use parser::Reading;
+use states::{States, TooMany};
 
-// The answer to a file, what was read of it, and its states: none if it is refused with 1 to 7.
+// What was read of a file, and its states, or why it is refused.
 #[derive(Clone, Copy)]
 pub struct Acceptance {
-    pub answer: Answer,
     pub known: Known,
-    pub states: States,
+    pub states: Result<States, Refusal>,
 }
 
-// The number and place of a refusal.
-fn answer_of(v: Refusal) -> Answer
-    ensures { answered result ≡ answer_of v }
-{
-    match v {
-        Refusal::None => answers::no_refusal(),
-        Refusal::TooLong => answers::refusal(meaning::FILE_TOO_LONG, 0),
-        Refusal::Cut(k) => answers::refusal(meaning::FIELD_CUT, k),
-        Refusal::WrongTag(k) => answers::refusal(meaning::WRONG_TAG, k),
-        Refusal::Malformed(k) => answers::refusal(meaning::MALFORMED, k),
-        Refusal::NameTaken(k) => answers::refusal(meaning::NAME_TAKEN, k),
-        Refusal::TooMany(k) => answers::refusal(meaning::TOO_MANY, k),
-        Refusal::NoConstant(k) => answers::refusal(meaning::NO_CONSTANT, k),
-    }
+// An accepted file, with what is known of it and its states.
+#[derive(Clone, Copy)]
+pub struct Accepted<'a> {
+    pub file: &'a [u8],
+    pub known: &'a Known,
+    pub states: &'a [u16],
 }
 
-// The number and place of a count of states, for a file of so many fields.
-fn count_answer(count: Count, fields: usize) -> Answer
-    ensures { answered result ≡ count_answer fields count }
-{
-    match count {
-        Count::Known(_) => answers::no_refusal(),
-        Count::TooMany => answers::refusal(meaning::TOO_MANY_STATES, fields),
-    }
+// What is handed on of an accepted file once its tables are written: with its automaton and its predicates.
+#[derive(Clone, Copy)]
+pub struct HandedFile<'a> {
+    pub accepted: Accepted<'a>,
+    pub automaton: Automaton<'a>,
+    pub predicates: Predicates<'a>,
 }
 
 // How many fields were read.
-fn field_count(known: Known) -> usize
-    ensures { result ≡ fields_known known }
+fn field_count(known: &Known) -> usize
+    ensures { result ≡ sum (drop 1 known.now.counts) }
 {
-    let n = known.counts;
-    byte_runs::wide(n[declarations::SYMBOLS])
-        + byte_runs::wide(n[declarations::TYPES])
-        + byte_runs::wide(n[declarations::PRODUCTIONS])
-        + byte_runs::wide(n[declarations::PREDICATES])
-        + byte_runs::wide(n[declarations::CLAUSES])
-        + byte_runs::wide(n[declarations::QUERIES])
+    known.counts[1..].iter().map(|&n| usize::from(n)).sum()
 }
 
-fn no_states() -> States
-    ensures { result ≡ packed [] }
+// The states of a file, if it is accepted.
+fn states_of(file: &[u8], reading: &Reading) -> Result<States, Refusal>
+    requires { (answered reading.now.outcome ≡ read_answer file.now) × Knows reading.now.known (fields_read file.now) }
+    ensures answer { answered result ≡ file_answer file.now }
+    ensures states { IfOk result (λ s. s ≡ held (states_of file.now)) }
 {
-    States {
-        count: Count::Known(0),
-        sets: [0u16; meaning::MOST_STATES],
+    reading.outcome?;
+    let known = &reading.known;
+    let section = known.section(file, Kind::Production);
+    match states::determinise(&section, known.symbols()) {
+        Ok(states) => Ok(states),
+        Err(TooMany) => Err(Refusal::TooManyStates(field_count(known))),
     }
 }
 
-// The states of a file that was read.
-fn states_of(file: &[u8], known: Known) -> States
-    requires { (read_answer file.now ≡ accepted) × Knows known (fields_read file.now) }
-    ensures states { result ≡ packed (states_of file.now) }
-    ensures eight { (k : ℕ) → count_answer k result.count ≡ refuse_if (ltb most_states (length (states_of file.now))) 8 k }
-{
-    let counts = known.counts;
-    let starts = known.starts;
-    let symbols = known.symbols;
-    let n = byte_runs::wide(counts[declarations::SYMBOLS]);
-    states::determinise(
-        file,
-        starts[declarations::PRODUCTIONS],
-        counts[declarations::PRODUCTIONS],
-        &symbols[..n],
-    )
-}
-
-// The answer to a file, with what was read of it and its states.
+// What was read of a file, and its states, or why it is refused.
 pub fn accept(file: &[u8]) -> Acceptance
-    ensures { (answered result.answer ≡ file_answer file.now) × Knows result.known (fields_read file.now) × (result.states ≡ states_given file.now) }
+    ensures { (answered result.states ≡ file_answer file.now) × Knows result.known (fields_read file.now) × IfOk result.states (λ s. s ≡ held (states_of file.now)) }
 {
     let reading = parser::read(file);
+    let states = states_of(file, &reading);
     let known = reading.known;
-    let found = reading.refusal;
-    let answer = answer_of(found);
-    if answer.number != 0 {
-        let states = no_states();
-        return Acceptance {
-            answer,
-            known,
-            states,
-        };
-    }
-    let states = states_of(file, known);
-    let count = states.count;
-    let answer = count_answer(count, field_count(known));
-    Acceptance {
-        answer,
-        known,
-        states,
-    }
+    Acceptance { known, states }
 }
 
-// The tables of a file that was accepted, written to the front of a buffer.
-pub fn write_file_tables(buffer: &mut [u8], file: &[u8], known: Known, states: &[u16])
-    requires file_value { (file_answer file.now ≡ accepted) × Knows known (fields_read file.now) }
-    requires states_value { (states.now ≡ states_of file.now) × (length (tables_of file.now) ≤ length buffer.old) }
-    ensures { buffer.new ≡ written (tables_of file.now) buffer.old }
+// The tables of an accepted file, written to the front of a buffer.
+pub fn write_file_tables(buffer: &mut [u8], accepted: &Accepted)
+    requires { IsAccepted accepted.now.file.now accepted.now.known.now accepted.now.states.now × (length (tables_of accepted.now.file.now) ≤ length buffer.old) }
+    ensures { buffer.new ≡ written (tables_of accepted.now.file.now) buffer.old }
 {
-    let counts = known.counts;
-    let starts = known.starts;
-    let symbols = known.symbols;
-    let n = byte_runs::wide(counts[declarations::SYMBOLS]);
-    states::write_tables(
-        buffer,
-        states,
-        &symbols[..n],
-        file,
-        starts[declarations::PRODUCTIONS],
-        counts[declarations::PRODUCTIONS],
-    );
+    let known = accepted.known;
+    let section = known.section(accepted.file, Kind::Production);
+    states::write_tables(buffer, accepted.states, known.symbols(), &section);
 }

@@ -1,19 +1,20 @@
--- What an analysis has handed back with 0: `r` and the buffers `after` are those of a call with the buffers `before`, which its contract ties to the file.
+-- What an analysis has handed back without a refusal: `r` and the buffers `after` are those of a call with the buffers `before`, which its contract ties to the file.
 -- Assumes nothing.
-use Rattle.meaning.proofs.Prelude.{ℕ, ◌≡◌, sym, ap, ◌∙◌, List, length}
+use Rattle.meaning.proofs.Prelude.{ℕ, ◌≡◌, refl, sym, ap, ◌∙◌, List, length}
 use Rattle.meaning.proofs.Definitions.{accepted, file_answer, states_of, model_of, rounds_of, atoms_of, verdicts_of, written, Buffers, Analysed}
 use Rattle.meaning.proofs.Definitions.{analysis_done, analysed}
 use Rattle.meaning.proofs.Demand1.{demand_1, accepted-analysis}
-use Rattle.analysis.specs.declared.Analysis.{Analysis}
+use Rattle.std.specs.Prelude.{Ok}
+use Rattle.analysis.specs.declared.Counts.{Counts}
 use Rattle.analysis.specs.Given.{given, Filled}
 use Rattle.byte_runs.proofs.Written.{written_again}
 
-module _ (file : List ℕ) (before after : Buffers) (r : Analysis) (is : given r after ≡ analysed file before) (z : r.answer.number ≡ 0) where
-  done_is : given r after ≡ analysis_done file before
-  done_is = (demand_1 file).fills (record { is = is }) z
+module _ (file : List ℕ) (before after : Buffers) (r : Counts) (is : given (Ok r) after ≡ analysed file before) where
+  done_is : given (Ok r) after ≡ analysis_done file before
+  done_is = (demand_1 file).fills (record { is = is }) refl
 
   pub accepted-is : file_answer file ≡ accepted
-  accepted-is = accepted-analysis file (record { is = is }) z
+  accepted-is = accepted-analysis file (record { is = is }) refl
 
   pub count_of_states : r.states ≡ length (states_of file)
   count_of_states = ap (λ (a : Analysed). a.states) done_is

@@ -1,19 +1,27 @@
 -- What an analysis hands back, as `meaning` has it, and what its parts are handed.
-use Rattle.std.specs.Prelude.{ℕ, ◌≡◌, List, length}
+use Rattle.std.specs.Prelude.{ℕ, ◌≡◌, List, length, Result, Ok, Err}
 use Rattle.meaning.specs.Refusals.{accepted}
 use Rattle.meaning.specs.Files.{file_answer}
 use Rattle.meaning.specs.Calls.{states_of, model_of, verdicts_of, written, Buffers, Analysed}
-use Rattle.answers.specs.declared.Answer.{Answer}
-use Rattle.answers.specs.Answered.{answered}
-use Rattle.analysis.specs.declared.Analysis.{Analysis}
+use Rattle.answers.specs.declared.Refusal.{Refusal}
+use Rattle.answers.specs.Refused.{answered}
+use Rattle.analysis.specs.declared.Counts.{Counts}
+
+-- the counts: every one is 0 with a refusal
+abbrev pub counts_given : Result Counts Refusal → Counts
+counts_given (Ok counts) = counts
+counts_given (Err r) = record { states = 0; atoms = 0; rounds = 0 }
 
 -- number, place and counts, with the buffers afterwards
-abbrev pub given : Analysis → Buffers → Analysed
-given r after = record { answer = answered r.answer; states = r.states; atoms = r.atoms; rounds = r.rounds; after = after }
-
--- every count is 0 with a refusal
-abbrev pub no_counts : Answer → Analysis
-no_counts answer = record { answer = answer; states = 0; atoms = 0; rounds = 0 }
+abbrev pub given : Result Counts Refusal → Buffers → Analysed
+given r after =
+    record {
+      answer = answered r;
+      states = (counts_given r).states;
+      atoms = (counts_given r).atoms;
+      rounds = (counts_given r).rounds;
+      after = after;
+    }
 
 -- buffers that an analysis of an accepted file has filled, with m states
 pub record Filled (file : List ℕ) (m : ℕ) (states marks verdicts : List ℕ) : Type 0 where

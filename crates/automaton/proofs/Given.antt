@@ -17,7 +17,7 @@ use Rattle.automaton.specs.Sets.{added, given_sets}
 use Rattle.automaton.specs.Marking.{joined_at, mark_production, mark_all, AreProductions, Fillable}
 use Rattle.automaton.proofs.Marking.{cleared, length-cleared, length-joined_at, joined-has, joined_keeps, joined-fits, drop-joined_at, mark-keeps, mark-gives}
 use Rattle.automaton.proofs.Members.{one_has, one-own, added-lt}
-use Rattle.automaton.proofs.Turns.{length-mark_production, mark_from, from_none}
+use Rattle.automaton.proofs.Turns.{fillable_same, length-mark_production, mark_from, from_none}
 
 -- the given sets, by place
 module _ (g : ℕ → List ℕ → ℕ) (states : List ℕ) where
@@ -273,24 +273,36 @@ module _ (states arities : List ℕ) where
               ∙ sym (given_sets-at ps types states arities w.0 w.1 w.2)
               ∙ ap (λ (k : ℕ). get_or given k 0) w.3
 
--- filling: the buffer is emptied, then all productions are marked
-module _ (states arities sets : List ℕ) (fill : Fillable states arities sets) {n : ℕ} (all : n ≡ cells (length states) arities) {begun : List ℕ} (emptied : begun ≡ replicate n 0 ++ drop n sets) where
-  begun_is : begun ≡ cleared sets (cells (length states) arities)
-  unfolding cleared
-  begun_is = emptied ∙ ap (cleared sets) all
+-- filling: the first n sets are emptied, then all productions are marked
+module _
+    (states arities sets : List ℕ)
+    (fill : Fillable states arities sets)
+    {n : ℕ} (all : n ≡ cells (length states) arities)
+    {zeros : List ℕ} (emptied : ((y : ℕ) → y ≡ 0 → y ≡ 0) → zeros ≡ replicate (length (take n sets)) 0)
+  where
+    begun_is : zeros ++ drop n sets ≡ cleared sets (cells (length states) arities)
+    unfolding cleared
+    begun_is =
+        ap (λ (l : List ℕ). l ++ drop n sets)
+        (emptied (λ y e. e) ∙ ap (λ (k : ℕ). replicate k 0) (length-take-le n sets (omega (arith, all, fill.room))))
+        ∙ ap (cleared sets) all
 
-  pub length_begun : length begun ≡ length sets
-  length_begun = ap (λ (l : List ℕ). length l) begun_is ∙ length-cleared sets (cells (length states) arities) fill.room
+    length_begun : length (zeros ++ drop n sets) ≡ length sets
+    length_begun = ap (λ (l : List ℕ). length l) begun_is ∙ length-cleared sets (cells (length states) arities) fill.room
 
-  pub filled : (file : List ℕ) (types from count left at : ℕ) {l : List ℕ}
-      → types ≤ 16
-      → AreProductions types arities count (contents_from count (drop from file))
-      → left ≤ 0
-      → mark_from states arities file left at l ≡ mark_from states arities file count from begun
-      → l ≡ given_sets (map production_of (contents_from count (drop from file))) types states arities ++ drop (cells (length states) arities) sets
-  unfolding mark_from
-  filled file types from count left at {l} low are none_left e =
-      sym (from_none states arities file left at l none_left)
-      ∙ e
-      ∙ ap (mark_all states arities (map production_of (contents_from count (drop from file)))) begun_is
-      ∙ end-given states arities types low (map production_of (contents_from count (drop from file))) are.well sets fill.room
+    -- a buffer as long as that one serves as well
+    pub still_fillable : {l : List ℕ} → length l ≡ length (zeros ++ drop n sets) → Fillable states arities l
+    still_fillable same = fillable_same fill (same ∙ length_begun)
+
+    pub filled : (file : List ℕ) (types from count left at : ℕ) {l : List ℕ}
+        → types ≤ 16
+        → AreProductions types arities count (contents_from count (drop from file))
+        → left ≤ 0
+        → mark_from states arities file left at l ≡ mark_from states arities file count from (zeros ++ drop n sets)
+        → l ≡ given_sets (map production_of (contents_from count (drop from file))) types states arities ++ drop (cells (length states) arities) sets
+    unfolding mark_from
+    filled file types from count left at {l} low are none_left e =
+        sym (from_none states arities file left at l none_left)
+        ∙ e
+        ∙ ap (mark_all states arities (map production_of (contents_from count (drop from file)))) begun_is
+        ∙ end-given states arities types low (map production_of (contents_from count (drop from file))) are.well sets fill.room

@@ -1,9 +1,11 @@
 -- Sets in a buffer: the first ones emptied, and the steps in which a production marks its rows. Assumes nothing.
 use Rattle.meaning.proofs.Prelude.{ℕ, ◌+◌, ◌≤◌, ◌<◌, zero, suc, ◌^◌, ◌*◌, ◌≡◌, refl, sym, ap, ◌∙◌, subst, ⊎_elim, ◌⊎◌, inl, inr, cond, Bool, true}
 use Rattle.meaning.proofs.Prelude.{false, List, [], ◌∷◌, ◌++◌, T, length, length-append, get_or, drop, replicate, length-replicate, set, length-set}
-use Rattle.meaning.proofs.Prelude.{length-drop, drop_of_length-le, drop-cons, get_or-set_same, get_or-set_other, set_out, drop-set-lt, not-suc-le-zero}
-use Rattle.meaning.proofs.Prelude.{le_of_suc-le-suc, lt-suc_self, le_step, eq-or-lt_of_le, zero-lt-suc, pow-zero, pow-succ', mul_assoc}
+use Rattle.meaning.proofs.Prelude.{length-drop, drop-cons, get_or-set_same, get_or-set_other, set_out, drop-set-lt, not-suc-le-zero}
+use Rattle.meaning.proofs.Prelude.{le_of_suc-le-suc, lt-suc_self, le_step, eq-or-lt_of_le, pow-succ', mul_assoc}
 use Rattle.meaning.proofs.Prelude.{mul-le-mul_right, le-mul_of_pos_right, one-le-pow, add-mul, one-mul, add-one, dec_lt, ℕ_discrete, arith}
+use Rattle.meaning.proofs.Prelude.{take, ◌-◌}
+use Rattle.meaning.proofs.Loops.{part-rest}
 use lib.Bits.{bit_or, or_lt}
 use Rattle.meaning.proofs.Definitions.{All, has, fits, sets_at}
 use Rattle.meaning.proofs.Bits.{has_either}
@@ -106,13 +108,13 @@ by_test P false l l' p h = p
 
 module _ (states : List ℕ) (base more : ℕ) where
   -- no argument is left
-  pub mark-end : (content : List ℕ) (i cell : ℕ) (sets : List ℕ) {s : ℕ}
-      → length content ≤ i
+  pub mark-end : (arguments : List ℕ) (cell : ℕ) (sets : List ℕ) {s : ℕ}
+      → length arguments < 1
       → s ≡ bit_or (get_or sets (base + cell) 0) more
-      → set sets (base + cell) s ≡ mark_rows states base more (drop i content) cell sets
+      → set sets (base + cell) s ≡ mark_rows states base more arguments cell sets
   unfolding mark_rows joined_at
-  mark-end content i cell sets h e =
-      ap (set sets (base + cell)) e ∙ sym (ap (λ (l : List ℕ). mark_rows states base more l cell sets) (drop_of_length-le content h))
+  mark-end [] cell sets h e = ap (set sets (base + cell)) e
+  mark-end (t ∷ arguments) cell sets h e = absurd (omega arith)
 
   -- the sets after the rows whose next state is below d
   unfoldable pub mark_to : ℕ → List ℕ → ℕ → List ℕ → ℕ → List ℕ
@@ -144,13 +146,13 @@ module _ (states : List ℕ) (base more : ℕ) where
         → l ≡ mark_to t arguments cell sets (d + 1)
     to_same d e h k = k ∙ to-next d false (sym e ∙ h)
 
-  pub to_all : (content : List ℕ) (i cell : ℕ) (sets : List ℕ) (d : ℕ)
-      → i < length content
+  pub to_all : (arguments : List ℕ) (cell : ℕ) (sets : List ℕ) (d : ℕ)
+      → 1 ≤ length arguments
       → d ≡ length states
-      → mark_to (get_or content i 0) (drop (i + 1) content) cell sets d ≡ mark_rows states base more (drop i content) cell sets
+      → mark_to (get_or arguments 0 0) (drop 1 arguments) cell sets d ≡ mark_rows states base more arguments cell sets
   unfolding mark_to mark_rows
-  to_all content i cell sets d h e =
-      rw (add-one i, e) (ap (λ (l : List ℕ). mark_rows states base more l cell sets) (sym (drop-cons content i 0 h)))
+  to_all [] cell sets d h e = absurd (omega arith)
+  to_all (t ∷ arguments) cell sets d h e = rw e
 
   -- what joining at the place of a row that fits keeps, marking keeps
   pub mark-keeps : (P : List ℕ → Type 0) (arguments : List ℕ) (cell : ℕ)
@@ -243,27 +245,19 @@ module _ (states : List ℕ) (base : ℕ) where
       ∙ ap (λ (n : ℕ). (cell + 1) * n) (sym (pow-succ' m k)) in
       record { asked = h.asked.1; room = omega (arith, h.room, row, all, e) }
 
--- by place in the content: at its end, and before it
-module _ {states : List ℕ} {base cell : ℕ} {sets : List ℕ} (content : List ℕ) (i : ℕ) (h : Markable states base (drop i content) cell sets) where
-  pub end-inside : length content ≤ i → base + cell < length sets
-  end-inside end =
-      cell-inside states base [] cell sets (subst (λ (l : List ℕ). Markable states base l cell sets) (drop_of_length-le content end) h)
-      (subst (λ (n : ℕ). 0 < n) (sym (pow-zero (length states))) (zero-lt-suc 0))
-
-  module _ (before : i < length content) where
-    here : Markable states base (get_or content i 0 ∷ drop (i + 1) content) cell sets
-    here = rw (add-one i) (subst (λ (l : List ℕ). Markable states base l cell sets) (drop-cons content i 0 before) h)
-
-    pub asked_low : get_or content i 0 < 16
-    asked_low = here.asked.0
+-- with an argument left
+module _ {states : List ℕ} {base cell : ℕ} {sets : List ℕ} (arguments : List ℕ) (h : Markable states base arguments cell sets) where
+  module _ (some : 1 ≤ length arguments) where
+    here : Markable states base (get_or arguments 0 0 ∷ drop 1 arguments) cell sets
+    here = subst (λ (l : List ℕ). Markable states base l cell sets) (drop-cons arguments 0 0 some) h
 
     pub deeper : (d : ℕ) (l : List ℕ)
         → d < length states
         → length l ≡ length sets
-        → Markable states base (drop (i + 1) content) (cell * length states + d) l
-    deeper d l lt e = one_more_lem states base (get_or content i 0) (drop (i + 1) content) cell d sets l here lt e
+        → Markable states base (take (length arguments - 1) (drop 1 arguments)) (cell * length states + d) l
+    deeper d l lt e = rw (part-rest 1 arguments) (one_more_lem states base (get_or arguments 0 0) (drop 1 arguments) cell d sets l here lt e)
 
     pub next-inside : (d : ℕ) → d < length states → base + (cell * length states + d) < length sets
     next-inside d lt =
-        cell-inside states base (drop (i + 1) content) _ sets (deeper d sets lt refl)
-        (one-le-pow (length (drop (i + 1) content)) (length states) (omega arith))
+        cell-inside states base (take (length arguments - 1) (drop 1 arguments)) _ sets (deeper d sets lt refl)
+        (one-le-pow (length (take (length arguments - 1) (drop 1 arguments))) (length states) (omega arith))

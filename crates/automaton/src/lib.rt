@@ -2,7 +2,7 @@
 
 #![tactic(auto)]
 
-ghost use Rattle.std.specs.Prelude.{ℕ, ◌≤◌, ◌<◌, ◌≡◌, ◌++◌, map, length, drop, replicate};
+ghost use Rattle.std.specs.Prelude.{ℕ, ◌≤◌, ◌<◌, ◌≡◌, ◌++◌, map, length, drop};
 ghost use Rattle.std.specs.Int.Bits.{bit_or};
 ghost use Rattle.meaning.specs.Types.{has};
 ghost use Rattle.meaning.specs.Cells.{cells};
@@ -12,7 +12,8 @@ ghost use Rattle.fields.specs.Found.{contents_from};
 ghost use Rattle.automaton.specs.Sets.{added, given_sets};
 ghost use Rattle.automaton.specs.Marking.{mark_rows, mark_production, Markable, Fillable, AreProductions};
 
-use fields::Found;
+use bitsets::Set;
+use fields::{Found, Section};
 
 // A set of types: type t is bit t. It is handed in and handed back, never altered behind the caller.
 #[derive(Clone, Copy)]
@@ -33,7 +34,7 @@ impl TypeSet {
         requires { t < 16 }
         ensures { result ≡ has self.bits t }
     {
-        (self.bits >> t) % 2 == 1
+        self.bits.holds(t)
     }
 
     // The set with one type added.
@@ -42,7 +43,7 @@ impl TypeSet {
         ensures { result.bits ≡ added self.bits t }
     {
         TypeSet {
-            bits: self.bits | (1 << t),
+            bits: self.bits.with(t),
         }
     }
 
@@ -51,54 +52,34 @@ impl TypeSet {
         ensures { result.bits ≡ bit_or self.bits other.bits }
     {
         TypeSet {
-            bits: self.bits | other.bits,
+            bits: self.bits.either(other.bits),
         }
     }
 }
 
-// The first n sets get no type.
-fn empty_sets(sets: &mut [u16], n: usize)
-    requires { n ≤ length sets.old }
-    ensures { sets.new ≡ replicate n 0 ++ drop n sets.old }
-{
-    byte_runs::zero_words(&mut sets[..n]);
-}
-
-// Joins a set of types into the cells of all rows that fit the arguments from i on: the state at each place holds the type that is asked for there.
+// Joins a set of types into the cells of all rows that fit some arguments: the state at each place holds the type that is asked for there.
 // `cell` is the cell of the states chosen so far; the segment of the symbol starts at `start`.
 fn mark_rows(
     sets: &mut [u16],
     start: usize,
     states: &[u16],
-    content: &[u8],
-    i: usize,
+    arguments: &[u8],
     cell: usize,
     more: TypeSet,
 )
-    requires { Markable states.now start (drop i content.now) cell sets.old }
-    ensures { sets.new ≡ mark_rows states.now start more.bits (drop i content.now) cell sets.old }
+    requires { Markable states.now start arguments.now cell sets.old }
+    ensures { sets.new ≡ mark_rows states.now start more.bits arguments.now cell sets.old }
 {
-    if content.len() <= i {
+    let [t, later @ ..] = arguments else {
         let at = start + cell;
         let joined = TypeSet { bits: sets[at] }.join(more);
         sets[at] = joined.bits;
         return;
-    }
-    let mut d = 0;
-    while d < states.len() {
-        let state = TypeSet { bits: states[d] };
-        if state.has(content[i]) {
-            mark_rows(
-                sets,
-                start,
-                states,
-                content,
-                i + 1,
-                cell * states.len() + d,
-                more,
-            );
+    };
+    for (d, &state) in states.iter().enumerate() {
+        if (TypeSet { bits: state }).has(*t) {
+            mark_rows(sets, start, states, later, cell * states.len() + d, more);
         }
-        d += 1;
     }
 }
 
@@ -107,30 +88,33 @@ fn mark_production(sets: &mut [u16], states: &[u16], arities: &[u8], content: &[
     requires { Fillable states.now arities.now sets.old × (2 ≤ length content.now) × WellProduction 16 arities.now (production_of content.now) }
     ensures { sets.new ≡ mark_production states.now arities.now (production_of content.now) sets.old }
 {
-    let start = cells::start_of(arities, states.len(), byte_runs::wide(content[1]));
+    let start = cells::start_of(arities, states.len(), usize::from(content[1]));
     let target = TypeSet::none().with(content[0]);
-    mark_rows(sets, start, states, content, meaning::ARGUMENTS, 0, target);
+    mark_rows(
+        sets,
+        start,
+        states,
+        &content[meaning::ARGUMENTS..],
+        0,
+        target,
+    );
 }
 
 // The sets that the symbols give over all rows of some sets, symbol after symbol: one pass over the productions.
-pub fn fill(sets: &mut [u16], states: &[u16], arities: &[u8], file: &[u8], from: usize, count: u8)
+pub fn fill(sets: &mut [u16], states: &[u16], arities: &[u8], section: &Section)
     requires fillable { Fillable states.now arities.now sets.old }
-    requires by_index { (types : ℕ) × (types ≤ 16) × AreProductions types arities.now count (contents_from count (drop from file.now)) }
-    ensures { (types : ℕ) → types ≤ 16 → AreProductions types arities.now count (contents_from count (drop from file.now)) → sets.new ≡ given_sets (map production_of (contents_from count (drop from file.now))) types states.now arities.now ++ drop (cells (length states.now) arities.now) sets.old }
+    requires by_index { (types : ℕ) × (types ≤ 16) × AreProductions types arities.now section.now.count (contents_from section.now.count (drop section.now.from section.now.bytes.now)) }
+    ensures { (types : ℕ) → types ≤ 16 → AreProductions types arities.now section.now.count (contents_from section.now.count (drop section.now.from section.now.bytes.now)) → sets.new ≡ given_sets (map production_of (contents_from section.now.count (drop section.now.from section.now.bytes.now))) types states.now arities.now ++ drop (cells (length states.now) arities.now) sets.old }
 {
-    empty_sets(sets, cells::cells_of(arities, states.len()));
-    let mut at = from;
-    let mut left = count;
-    while 0 < left {
-        match fields::field_at(file, at) {
-            Found::Whole(_, len) => {
-                let content = fields::content(file, at, len);
-                mark_production(sets, states, arities, content);
-                at = at + fields::HEADER + len;
-                left -= 1;
-            }
-            Found::Cut => return,
-            Found::End => return,
-        }
+    let all = cells::cells_of(arities, states.len());
+    sets[..all].fill(0);
+    let mut at = section.from;
+    for _ in 0..section.count {
+        let Found::Whole(_, len) = fields::field_at(section.bytes, at) else {
+            return;
+        };
+        let content = fields::content(section.bytes, at, len);
+        mark_production(sets, states, arities, content);
+        at += fields::HEADER + len;
     }
 }

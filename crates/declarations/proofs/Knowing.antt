@@ -1,10 +1,10 @@
 -- What reading keeps of some fields is what they say. Assumes nothing.
-use Rattle.meaning.proofs.Prelude.{ℕ, ◌<◌, ◌≡◌, sym, ap, ◌∙◌, ap₂, List, lit<, length, length-map, get_or, take, take-append_seam}
-use Rattle.meaning.proofs.Definitions.{Kind, symbol, predicate, Field, contents_of, contents, first_byte, arities_in, types_in}
+use Rattle.meaning.proofs.Prelude.{ℕ, ◌≤◌, ◌-◌, ◌<◌, ◌≡◌, sym, ap, ◌∙◌, subst, ap₂, List, lit<, length, length-append, length-map, replicate, get_or, take, take-append_seam, arith}
+use Rattle.meaning.proofs.Definitions.{padded, Kind, symbol, predicate, Field, contents_of, contents, first_byte, arities_in, types_in}
 use Rattle.meaning.proofs.Lists.{get_or-table}
 use Rattle.declarations.specs.declared.Known.{Known}
 use Rattle.declarations.specs.Known.{tags, first_at, Knows}
-use Rattle.declarations.specs.Tests.{known_types, known_symbols, known_predicates}
+use Rattle.declarations.specs.Tests.{known_types, known_symbols, known_predicates, CountsFit}
 
 pub length-arities : (k : Kind) (fs : List Field) → length (arities_in k fs) ≡ length (contents k fs)
 length-arities k fs = length-map (contents k fs) first_byte
@@ -25,3 +25,17 @@ module _ (known : Known) (done : List Field) (knows : Knows known done) where
 
   pub known_predicates_lem : known_predicates known ≡ arities_in predicate done
   known_predicates_lem = ap₂ take (count_of 4 (lit< tt) ∙ sym (length-arities predicate done)) knows.predicates ∙ take-append_seam (arities_in predicate done) _
+
+  -- as many symbols and predicates are known as find room
+  fits : (k : Kind) {n : ℕ} {kept : List ℕ} → kept ≡ padded n (arities_in k done) → length kept ≡ n → length (contents k done) ≤ n
+  fits k {n} {kept} e full =
+      let arities = arities_in k done in
+      omega (arith, full, ap length e, length-append arities (replicate (n - length arities) 0), length-arities k done)
+
+  pub counts_fit : length known.symbols ≡ 24 → length known.predicates ≡ 16 → CountsFit known
+  counts_fit s p = (
+    subst (λ (n : ℕ). n ≤ 24) (sym (count_of 1 (lit< tt))) (fits symbol knows.symbols s),
+    subst (λ (n : ℕ). n ≤ 16) (sym (count_of 4 (lit< tt))) (fits predicate knows.predicates p),
+    s,
+    p,
+  )

@@ -1,3 +1,3 @@
+pub mod Kinds
 pub mod Known
-pub mod Refusal
 pub mod Tests

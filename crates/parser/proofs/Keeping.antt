@@ -127,6 +127,16 @@ arities-snoc k fs content = ap (map first_byte) (contents-same (tag_of k) fs con
 pub arities_other : (k : Kind) (t : ℕ) (fs : List Field) (content : List ℕ) → tag_of k ≢ t → arities_in k (fs ++ (whole t content ∷ [])) ≡ arities_in k fs
 arities_other k t fs content ne = ap (map first_byte) (contents_other (tag_of k) t fs content ne)
 
+-- a field of a tag is counted, and its start kept if it is the first
+abbrev pub counted : Known → ℕ → ℕ → Known
+counted known t at =
+    record {
+      counts = set known.counts t (get_or known.counts t 0 + 1);
+      starts = started_at known.starts t (get_or known.counts t 0) at;
+      symbols = known.symbols;
+      predicates = known.predicates;
+    }
+
 -- all that is known, with one field more
 module _ (known : Known) (done : List Field) (knows : Knows known done) where
   module _ (t : ℕ) (content : List ℕ) (h : t < tags) where
@@ -163,37 +173,20 @@ module _ (known : Known) (done : List Field) (knows : Knows known done) where
       → array ≡ padded n (arities_in k (done ++ (whole t content ∷ [])))
   arities-kept k n t array content is ne = is ∙ ap (padded n) (sym (arities_other k t done content ne))
 
-  -- put together, for a tag t read as tag
-  pub knows_more : (tag t at : ℕ) (content starts symbols predicates : List ℕ)
-      → t ≡ tag
-      → tag < tags
+  -- put together, for a tag t
+  pub knows_more : (t at : ℕ) (content symbols predicates : List ℕ)
+      → t < tags
       → All (λ f. T (not (is_cut f))) done
       → bytes_in done ≡ at
-      → starts ≡ started_at known.starts t (get_or known.counts t 0) at
-      → symbols ≡ padded (most_of symbol) (arities_in symbol (done ++ (whole tag content ∷ [])))
-      → predicates ≡ padded (most_of predicate) (arities_in predicate (done ++ (whole tag content ∷ [])))
-      → Knows
-      (record { counts = set known.counts t (get_or known.counts t 0 + 1); starts = starts; symbols = symbols; predicates = predicates })
-      (done ++ (whole tag content ∷ []))
-  knows_more tag t at content starts symbols predicates e h w bytes s y p =
-      record {
-        counts = ap (λ (u : ℕ). set known.counts u (get_or known.counts u 0 + 1)) e ∙ counts-more tag content h;
-        starts = s ∙ (ap (λ (u : ℕ). started_at known.starts u (get_or known.counts u 0) at) e ∙ starts_more tag content h at w bytes);
-        symbols = y;
-        predicates = p;
-      }
+      → symbols ≡ padded (most_of symbol) (arities_in symbol (done ++ (whole t content ∷ [])))
+      → predicates ≡ padded (most_of predicate) (arities_in predicate (done ++ (whole t content ∷ [])))
+      → Knows (record { counts = (counted known t at).counts; starts = (counted known t at).starts; symbols = symbols; predicates = predicates }) (done ++ (whole t content ∷ []))
+  knows_more t at content symbols predicates h w bytes s p =
+      record { counts = counts-more t content h; starts = starts_more t content h at w bytes; symbols = s; predicates = p }
 
--- the room for a symbol, for a predicate, and for all
+-- the room for a symbol and for a predicate
 pub room-symbol : (tag n : ℕ) → tag ≡ 1 → n < room_for tag → n < 24
 room-symbol tag n e h = subst (λ (t : ℕ). n < room_for t) e h
 
 pub room-predicate : (tag n : ℕ) → tag ≡ 4 → n < room_for tag → n < 16
 room-predicate tag n e h = subst (λ (t : ℕ). n < room_for t) e h
-
-pub room_byte : (tag n : ℕ) → n < room_for tag → n + 1 < 256
-room_byte tag n h = go (eqb tag 1) (eqb tag 4) h
-  where
-    go : (a b : Bool) → n < cond a 24 (cond b 16 255) → n + 1 < 256
-    go true b lt = omega arith
-    go false true lt = omega arith
-    go false false lt = omega arith

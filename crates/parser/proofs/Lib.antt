@@ -1,4 +1,5 @@
 pub mod Keeping
+pub mod Adding
 pub mod Reached
 pub mod Turns
 pub mod Sizes

@@ -1,6 +1,7 @@
 -- The bytes of a sheet: how many they are, and that they are put if there is room for them. Assumes nothing.
 use Rattle.meaning.proofs.Prelude.{ℕ, ◌+◌, ◌≤◌, ◌<◌, ◌*◌, ◌≡◌, refl, sym, ap, ◌∙◌, cond, Bool, true, false, not, List, [], ◌∷◌, ◌++◌, T, leb→le, le→leb, length, length-append, get_or}
 use Rattle.meaning.proofs.Prelude.{drop, take-length, zero-add, leb-true, leb-false, arith}
+use Rattle.std.specs.Prelude.{Option, Some, None}
 use Rattle.meaning.proofs.Definitions.{All, nonzero, atom_tag, encode_field, cells, encode_sheet, marked_atoms, IsSheetAtom, written, holds}
 use Rattle.meaning.proofs.Lists.{All-map, All-get_or, cond_yes, cond_no, not_intro}
 use Rattle.meaning.proofs.MarkedAtoms.{marked-atoms_form, marked-count}
@@ -10,8 +11,6 @@ use Rattle.byte_runs.specs.Pasted.{pasted, Put}
 use Rattle.byte_runs.proofs.Putting.{put_then}
 use Rattle.sheet_writer.specs.Parts.{state_fields, atom_fields}
 use Rattle.sheet_writer.proofs.Fields.{states-length}
-use Rattle.sheet_writer.specs.declared.Fit.{Fit}
-use Rattle.sheet_writer.specs.declared.Fit.TheVariants.{Whole, TooShort}
 use Rattle.sheet_writer.specs.Fits.{sheet_of, if_room, fit_of}
 
 -- an atom's field is of at most 7 bytes
@@ -57,30 +56,30 @@ module _ (needed before : List ℕ) {n : ℕ} (e : n ≡ length needed) where
   pub room-kept : length before < n → if_room needed before ≡ before
   room-kept short = cond_no (holds before needed) (written needed before) before (lacks_room short)
 
-  pub fits : n ≤ length before → Whole n ≡ fit_of needed before
-  fits long = ap Whole e ∙ sym (cond_yes (holds before needed) (Whole (length needed)) TooShort (has_room long))
+  pub fits : n ≤ length before → Some n ≡ fit_of needed before
+  fits long = ap Some e ∙ sym (cond_yes (holds before needed) (Some (length needed)) None (has_room long))
 
-  pub too_short : length before < n → TooShort ≡ fit_of needed before
-  too_short short = sym (cond_no (holds before needed) (Whole (length needed)) TooShort (lacks_room short))
+  pub too_short : length before < n → None ≡ fit_of needed before
+  too_short short = sym (cond_no (holds before needed) (Some (length needed)) None (lacks_room short))
 
 -- what is known of the needed bytes by the answer
-module _ (needed before : List ℕ) {r : Fit} (e : r ≡ fit_of needed before) where
-  pub fit_whole : {n : ℕ} → r ≡ Whole n → (n ≡ length needed) × (length needed ≤ length before)
+module _ (needed before : List ℕ) {r : Option ℕ} (e : r ≡ fit_of needed before) where
+  pub fit_whole : {n : ℕ} → r ≡ Some n → (n ≡ length needed) × (length needed ≤ length before)
   fit_whole {n} f = go (holds before needed) refl e
     where
-      go : (b : Bool) → holds before needed ≡ b → r ≡ cond b (Whole (length needed)) TooShort → (n ≡ length needed) × (length needed ≤ length before)
-      go true t e = let same : Whole n ≡ Whole (length needed) = sym f ∙ e in (cc, leb-true (length needed) (length before) t)
+      go : (b : Bool) → holds before needed ≡ b → r ≡ cond b (Some (length needed)) None → (n ≡ length needed) × (length needed ≤ length before)
+      go true t e = let same : Some n ≡ Some (length needed) = sym f ∙ e in (cc, leb-true (length needed) (length before) t)
       go false t e =
-          let other : Whole n ≡ TooShort = sym f ∙ e in
+          let other : Some n ≡ None = sym f ∙ e in
           let z : ◌≡◌ {A = ℕ} 0 1 = cc in
           absurd (omega arith)
 
-  pub fit_short : r ≡ TooShort → length before < length needed
+  pub fit_short : r ≡ None → length before < length needed
   fit_short f = go (holds before needed) refl e
     where
-      go : (b : Bool) → holds before needed ≡ b → r ≡ cond b (Whole (length needed)) TooShort → length before < length needed
+      go : (b : Bool) → holds before needed ≡ b → r ≡ cond b (Some (length needed)) None → length before < length needed
       go true t e =
-          let other : TooShort ≡ Whole (length needed) = sym f ∙ e in
+          let other : None ≡ Some (length needed) = sym f ∙ e in
           let z : ◌≡◌ {A = ℕ} 0 1 = cc in
           absurd (omega arith)
       go false t e = leb-false (length needed) (length before) t

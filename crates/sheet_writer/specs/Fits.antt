@@ -1,9 +1,7 @@
 -- A sheet put into a buffer, if there is room for it.
-use Rattle.std.specs.Prelude.{ℕ, cond, List, length}
+use Rattle.std.specs.Prelude.{ℕ, cond, List, length, Option, Some, None}
 use Rattle.meaning.specs.Certificates.{encode_sheet, marked_atoms}
 use Rattle.meaning.specs.Calls.{written, holds}
-use Rattle.sheet_writer.specs.declared.Fit.{Fit}
-use Rattle.sheet_writer.specs.declared.Fit.TheVariants.{Whole, TooShort}
 
 -- the bytes of a sheet with some states and the atoms that some marks mark
 abbrev pub sheet_of : List ℕ → List ℕ → List ℕ → List ℕ
@@ -14,5 +12,5 @@ abbrev pub if_room : List ℕ → List ℕ → List ℕ
 if_room needed before = cond (holds before needed) (written needed before) before
 
 -- how many bytes are put, if there is room for them
-abbrev pub fit_of : List ℕ → List ℕ → Fit
-fit_of needed before = cond (holds before needed) (Whole (length needed)) TooShort
+abbrev pub fit_of : List ℕ → List ℕ → Option ℕ
+fit_of needed before = cond (holds before needed) (Some (length needed)) None

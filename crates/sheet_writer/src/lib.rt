@@ -12,13 +12,6 @@ ghost use Rattle.byte_runs.specs.Pasted.{pasted, Put};
 ghost use Rattle.sheet_writer.specs.Parts.{atom_fields, state_fields, part_atoms};
 ghost use Rattle.sheet_writer.specs.Fits.{sheet_of, if_room, fit_of};
 
-// How a sheet fits a buffer: so many bytes are put, or none, since it is too short.
-#[derive(Clone, Copy)]
-pub enum Fit {
-    Whole(usize),
-    TooShort,
-}
-
 // The bytes of a field that has a state.
 const STATE_FIELD: usize = 5;
 
@@ -30,15 +23,12 @@ fn atoms_length(marks: &[u8], preds: &[u8], m: usize) -> usize
     requires { (m ≤ 16) × (length preds.now ≤ 16) × All (λ n. n ≤ 3) preds.now × (length marks.now ≡ cells m preds.now) }
     ensures { result ≡ length (atom_fields (marked_atoms m preds.now marks.now)) }
 {
-    let mut sum: usize = 0;
-    let mut a: usize = 0;
-    let mut p = 0;
-    while p < preds.len() {
-        let n = preds[p];
+    let mut sum = 0;
+    let mut a = 0;
+    for &n in preds {
         let e = a + cells::power(m, n);
-        sum = sum + (byte_runs::wide(n) + BEFORE_STATES) * marks::count(&marks[a..e]);
+        sum += (usize::from(n) + BEFORE_STATES) * marks::count(&marks[a..e]);
         a = e;
-        p += 1;
     }
     sum
 }
@@ -48,14 +38,8 @@ fn put_state_field(sheet: &mut [u8], at: usize, state: u16) -> usize
     requires { at + 5 ≤ length sheet.old }
     ensures { (sheet.new ≡ pasted sheet.old at (encode_field state_tag (state_bytes state))) × (result ≡ at + 5) }
 {
-    let field = [
-        meaning::STATE_TAG,
-        0,
-        2,
-        (state / 256) as u8,
-        (state % 256) as u8,
-    ];
-    byte_runs::put_bytes(sheet, at, &field)
+    let [high, low] = state.to_be_bytes();
+    byte_runs::put_bytes(sheet, at, &[meaning::STATE_TAG, 0, 2, high, low])
 }
 
 // Puts the fields of the states to the front.
@@ -63,11 +47,9 @@ fn put_state_fields(sheet: &mut [u8], states: &[u16]) -> usize
     requires { length states.now * 5 ≤ length sheet.old }
     ensures { (sheet.new ≡ pasted sheet.old 0 (state_fields states.now)) × (result ≡ length states.now * 5) }
 {
-    let mut at: usize = 0;
-    let mut i = 0;
-    while i < states.len() {
-        at = put_state_field(sheet, at, states[i]);
-        i += 1;
+    let mut at = 0;
+    for &state in states {
+        at = put_state_field(sheet, at, state);
     }
     at
 }
@@ -79,8 +61,7 @@ fn put_atom_field(sheet: &mut [u8], at: usize, m: usize, n: u8, p: u8, c: usize)
 {
     let next = byte_runs::put_bytes(sheet, at, &[meaning::ATOM_TAG, 0, n + 1, p]);
     let row = cells::row_at(c, m, n);
-    let k = byte_runs::wide(n);
-    byte_runs::put_bytes(sheet, next, &row[..k])
+    byte_runs::put_bytes(sheet, next, &row[..usize::from(n)])
 }
 
 // Puts the fields of the marked atoms of a part, the segment of predicate p, of arity n.
@@ -89,12 +70,10 @@ fn put_part(sheet: &mut [u8], from: usize, part: &[u8], m: usize, n: u8, p: u8) 
     ensures { Put sheet.old from (atom_fields (part_atoms m n p 0 part.now)) sheet.new result }
 {
     let mut at = from;
-    let mut c = 0;
-    while c < part.len() {
-        if part[c] != 0 {
+    for (c, &mark) in part.iter().enumerate() {
+        if mark != 0 {
             at = put_atom_field(sheet, at, m, n, p, c);
         }
-        c += 1;
     }
     at
 }
@@ -105,29 +84,26 @@ fn put_atom_fields(sheet: &mut [u8], from: usize, marks: &[u8], preds: &[u8], m:
     ensures { (sheet.new ≡ pasted sheet.old from (atom_fields (marked_atoms m preds.now marks.now))) × (result ≡ from + length (atom_fields (marked_atoms m preds.now marks.now))) }
 {
     let mut at = from;
-    let mut a: usize = 0;
-    let mut p = 0;
-    while p < preds.len() {
-        let n = preds[p];
+    let mut a = 0;
+    for (p, &n) in preds.iter().enumerate() {
         let e = a + cells::power(m, n);
         at = put_part(sheet, at, &marks[a..e], m, n, p as u8);
         a = e;
-        p += 1;
     }
     at
 }
 
 // Puts the sheet of states and marked atoms to the front of a buffer that is long enough.
-pub fn put_sheet(sheet: &mut [u8], found: &[u16], marks: &[u8], preds: &[u8]) -> Fit
+pub fn put_sheet(sheet: &mut [u8], found: &[u16], marks: &[u8], preds: &[u8]) -> Option<usize>
     requires { (1 ≤ length found.now) × (length found.now ≤ 16) × (length preds.now ≤ 16) × All (λ n. n ≤ 3) preds.now × (length marks.now ≡ cells (length found.now) preds.now) }
     ensures { (result ≡ fit_of (sheet_of found.now preds.now marks.now) sheet.old) × (sheet.new ≡ if_room (sheet_of found.now preds.now marks.now) sheet.old) }
 {
     let m = found.len();
     let needed = m * STATE_FIELD + atoms_length(marks, preds, m);
     if sheet.len() < needed {
-        return Fit::TooShort;
+        return None;
     }
     let at = put_state_fields(sheet, found);
     put_atom_fields(sheet, at, marks, preds, m);
-    Fit::Whole(needed)
+    Some(needed)
 }

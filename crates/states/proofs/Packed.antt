@@ -4,8 +4,9 @@ use Rattle.meaning.proofs.Prelude.{append_assoc, ltb, leb, length, length-append
 use Rattle.meaning.proofs.Prelude.{take_at, take-append-le, drop-append-le, drop-append-add, add-one, arith, le-leb, lt-leb, lt-ltb, le-ltb, leb-true}
 use Rattle.meaning.proofs.Prelude.{leb-false}
 use Rattle.meaning.proofs.Definitions.{most_states, refuse_if}
-use Rattle.states.specs.Packed.{put_at, padded_states, Holds, packed, overfull, count_of, count_answer}
-use Rattle.states.specs.declared.Count.TheVariants.{Known, TooMany}
+use Rattle.std.specs.Prelude.{Result, Ok, Err, IsErr}
+use Rattle.states.specs.Packed.{put_at, padded_states, Holds, held, packed, count_answer}
+use Rattle.states.specs.declared.TooMany.{TooMany}
 use Rattle.states.specs.declared.States.{States}
 
 -- the numbers and the zeros behind them
@@ -60,66 +61,62 @@ padded_put l i s few h =
         left = omega arith
 
 -- the answer, from the list and back
-pub packed_known : (l : List ℕ) → length l ≤ most_states → packed l ≡ record { count = Known (length l); sets = padded_states l }
+abbrev made : Bool → List ℕ → Result States TooMany
+made b l = cond b (Ok (held l)) (Err (record {}))
+
+pub packed_known : (l : List ℕ) → length l ≤ most_states → packed l ≡ Ok (held l)
 unfolding packed
 packed_known l h = simp (le-leb (length l) most_states h)
 
-pub packed_many : (l : List ℕ) → most_states < length l → packed l ≡ overfull
+pub packed_many : (l : List ℕ) (many : TooMany) → most_states < length l → packed l ≡ Err many
 unfolding packed
-packed_many l h = simp (lt-leb (length l) most_states h)
+packed_many l many h = simp (lt-leb (length l) most_states h)
 
 -- 8 where there are too many, else no refusal
-pub packed-answer : {r : States} (l : List ℕ) → r ≡ packed l → (k : ℕ) → count_answer k r.count ≡ refuse_if (ltb most_states (length l)) 8 k
+pub packed-answer : {r : Result States TooMany} (l : List ℕ) → r ≡ packed l → (k : ℕ) → count_answer k r ≡ refuse_if (ltb most_states (length l)) 8 k
 unfolding packed
-packed-answer {r} l e k = ap (λ (x : States). count_answer k x.count) e ∙ go (leb (length l) most_states) refl
+packed-answer {r} l e k = ap (count_answer k) e ∙ go (leb (length l) most_states) refl
   where
     go : (b : Bool)
         → leb (length l) most_states ≡ b
-        → count_answer k (cond b (record { count = Known (length l); sets = padded_states l }) overfull).count ≡ refuse_if (ltb most_states (length l)) 8 k
+        → count_answer k (made b l) ≡ refuse_if (ltb most_states (length l)) 8 k
     go true t = rw (le-ltb most_states (length l) (leb-true (length l) most_states t)) refl
     go false t = rw (lt-ltb most_states (length l) (leb-false (length l) most_states t)) refl
 
-pub known_is : {r : States} (l : List ℕ) {k : ℕ} → r ≡ packed l → r.count ≡ Known k → (k ≡ length l) × (length l ≤ most_states) × (r.sets ≡ padded_states l)
+-- some states: so many as the list has, which are at most 16
+pub known_is : (l : List ℕ) {s : States} → Ok s ≡ packed l → (s.count ≡ length l) × (length l ≤ most_states) × (s.sets ≡ padded_states l)
 unfolding packed
-known_is {r} l {k} e f = go (leb (length l) most_states) refl e
+known_is l {s} e = go (leb (length l) most_states) refl e
   where
     go : (b : Bool)
         → leb (length l) most_states ≡ b
-        → r ≡ cond b (record { count = Known (length l); sets = padded_states l }) overfull
-        → (k ≡ length l) × (length l ≤ most_states) × (r.sets ≡ padded_states l)
+        → Ok s ≡ made b l
+        → (s.count ≡ length l) × (length l ≤ most_states) × (s.sets ≡ padded_states l)
     go true t e =
-        let same : Known k ≡ Known (length l) = sym f ∙ ap (λ (x : States). x.count) e in
-        (cc, leb-true (length l) most_states t, ap (λ (x : States). x.sets) e)
-    go false t e =
-        let other : Known k ≡ TooMany = sym f ∙ ap (λ (x : States). x.count) e in
-        let z : ◌≡◌ {A = ℕ} 0 1 = cc in
-        absurd (omega arith)
+        let same : s ≡ held l = cc in
+        (ap (λ (x : States). x.count) same, leb-true (length l) most_states t, ap (λ (x : States). x.sets) same)
+    go false t e = absurd (cc)
+
+pub many_is : (l : List ℕ) {many : TooMany} → Err many ≡ packed l → most_states < length l
+unfolding packed
+many_is l {many} e = go (leb (length l) most_states) refl e
+  where
+    go : (b : Bool) → leb (length l) most_states ≡ b → Err many ≡ made b l → most_states < length l
+    go true t e = absurd (cc)
+    go false t e = leb-false (length l) most_states t
+
+-- there is but one refusal
+pub is_many : {r : Result States TooMany} (many : TooMany) → IsErr r → r ≡ Err many
+is_many {r = Ok s} many h = absurd (cc)
+is_many {r = Err e} many h = refl
 
 -- the first numbers of the array are those of the list
-module _ {r : States} (l : List ℕ) (few : length l ≤ most_states) (e : r ≡ packed l) where
-  pub count-is : count_of r ≡ length l
-  count-is = ap count_of (e ∙ packed_known l few)
+module _ (l : List ℕ) {s : States} (e : Ok s ≡ packed l) where
+  pub count_fits : s.count ≤ most_states
+  count_fits = let w = known_is l e in omega (arith, w.0, w.1)
 
-  sets_are : r.sets ≡ padded_states l
-  sets_are = ap (λ (x : States). x.sets) (e ∙ packed_known l few)
+  pub counted_sets : take s.count s.sets ≡ l
+  counted_sets = let w = known_is l e in ap (take s.count) w.2 ∙ take-padded l s.count w.0
 
-  pub count_fits : count_of r ≤ length r.sets
-  unfolding padded_states
-  count_fits = omega (arith, count-is, ap length sets_are, length-append l (replicate (most_states - length l) 0))
-
-  pub counted_sets : take (count_of r) r.sets ≡ l
-  counted_sets = ap (take (count_of r)) sets_are ∙ take-padded l (count_of r) count-is
-
-pub many_is : {r : States} (l : List ℕ) → r ≡ packed l → r.count ≡ TooMany → (most_states < length l) × (r ≡ overfull)
-unfolding packed
-many_is {r} l e f = go (leb (length l) most_states) refl e
-  where
-    go : (b : Bool)
-        → leb (length l) most_states ≡ b
-        → r ≡ cond b (record { count = Known (length l); sets = padded_states l }) overfull
-        → (most_states < length l) × (r ≡ overfull)
-    go true t e =
-        let other : TooMany ≡ Known (length l) = sym f ∙ ap (λ (x : States). x.count) e in
-        let z : ◌≡◌ {A = ℕ} 0 1 = cc in
-        absurd (omega arith)
-    go false t e = (leb-false (length l) most_states t, e)
+  pub packed_holds : Holds s.sets s.count
+  packed_holds = let w = known_is l e in holds_again s.count s.sets l count_fits w.0 w.2

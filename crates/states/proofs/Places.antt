@@ -1,33 +1,46 @@
 -- Looking for the first member that passes a test, and putting a number at its place in a rising list. Assumes nothing.
 use Rattle.meaning.proofs.Prelude.{ℕ, ◌+◌, ◌≤◌, ◌-◌, ◌<◌, suc, zero-le, suc-le-suc, ◌≡◌, refl, sym, cond, Bool, true, false, List, [], ◌∷◌, ◌++◌, leb}
-use Rattle.meaning.proofs.Prelude.{eqb, length, get_or, take, drop, set, drop-cons, drop-set-lt, append_snoc, drop-length, take-suc-set, set_split}
-use Rattle.meaning.proofs.Prelude.{not-suc-le-zero, le_of_suc-le-suc, zero-lt-suc, le_of_eq, sub_self, add-one, arith, ne_eqb, eq-eqb, lt-ltb, le-ltb}
+use Rattle.meaning.proofs.Prelude.{eqb, length, get_or, take, drop, set, set_split}
+use Rattle.meaning.proofs.Prelude.{not-suc-le-zero, le_of_suc-le-suc, zero-lt-suc, le_of_eq, add-one, arith, ne_eqb, eq-eqb, lt-ltb, le-ltb}
 use Rattle.meaning.proofs.Prelude.{leb-true, leb-false}
 use Rattle.meaning.specs.States.{insert_rising, index_of}
+use Rattle.std.specs.Prelude.{Option, Some, None, unwrap_or}
+use Rattle.std.specs.List.{position_or_len, copy_within}
+use Rattle.meaning.proofs.Prelude.{ap, ap₂, ◌∙◌, not, append_assoc, ltb, ltb-false, length-append, length-take-le, take-append-le, take-take, drop_at}
 use Rattle.states.specs.Packed.{place_for, put_at}
 
--- `f` is the place of the first member that passes, the length if none does: found at place i, looked for further on, or nowhere
+-- `f` is the place of the first member that passes, the length if none does, as the library's search gives it
 module _
     (test : ℕ → Bool) (f : List ℕ → ℕ)
     (nil : f [] ≡ 0)
     (cons : (x : ℕ) (xs : List ℕ) → f (x ∷ xs) ≡ cond (test x) 0 (suc (f xs)))
   where
-    pub first-here : (l : List ℕ) (i : ℕ) → i < length l → test (get_or l i 0) ≡ true → i + f (drop i l) ≡ i
-    first-here l i h t = rw (drop-cons l i 0 h, cons, t) (omega arith)
-
-    pub first_next : (l : List ℕ) (i : ℕ) → i < length l → test (get_or l i 0) ≡ false → i + 1 + f (drop (i + 1) l) ≡ i + f (drop i l)
-    first_next l i h t = rw (drop-cons l i 0 h, cons, t, add-one i) (omega arith)
-
-    pub first-none : (l : List ℕ) (i : ℕ) → i ≡ length l → i + f (drop i l) ≡ i
-    first-none l i e = rw (e, drop-length l, nil) (omega arith)
-
-    pub first-le : (l : List ℕ) → f l ≤ length l
+    first-le : (l : List ℕ) → f l ≤ length l
     first-le [] = le_of_eq nil
     first-le (x ∷ xs) = rw (cons x xs) (go (test x) (first-le xs))
       where
         go : (b : Bool) → f xs ≤ length xs → cond b 0 (suc (f xs)) ≤ suc (length xs)
         go true h = zero-le
         go false h = suc-le-suc h
+
+    first-is : (l : List ℕ) → position_or_len test l ≡ f l
+    first-is [] = sym nil
+    first-is (x ∷ xs) = go (test x) (first-is xs) ∙ sym (cons x xs)
+      where
+        go : (b : Bool) → position_or_len test xs ≡ f xs → cond (not b) (1 + position_or_len test xs) 0 ≡ cond b 0 (suc (f xs))
+        go true e = refl
+        go false e = omega arith
+
+    pub first_found : (l : List ℕ) {r : Option ℕ}
+        → r ≡ cond (ltb (position_or_len test l) (length l)) (Some (position_or_len test l)) None
+        → unwrap_or r (length l) ≡ f l
+    first_found l e =
+        ap (λ (o : Option ℕ). unwrap_or o (length l)) (e ∙ ap (λ (n : ℕ). cond (ltb n (length l)) (Some n) None) (first-is l))
+        ∙ go (ltb (f l) (length l)) refl
+      where
+        go : (b : Bool) → ltb (f l) (length l) ≡ b → unwrap_or (cond b (Some (f l)) None) (length l) ≡ f l
+        go true t = refl
+        go false t = omega (arith, first-le l, ltb-false (f l) (length l) t)
 
 pub place-le : (s : ℕ) (l : List ℕ) → place_for s l ≤ length l
 place-le s l = first-le (leb s) (place_for s) refl (λ x xs. refl) l
@@ -72,15 +85,32 @@ insert_new-at s (x ∷ xs) h = go (leb s x) refl h (insert_new-at s xs)
         let lt : x < s = leb-false s x t in
         simp (le-ltb s x (omega arith), ne_eqb s x (λ d. omega arith), ih (λ k e. h (suc-le-suc k) e))
 
--- a number carried on: it takes the next place, and the one that stood there is carried
-pub put_next : (l : List ℕ) (j n s : ℕ) → j < n → n < length l → put_at (set l j s) (j + 1) n (get_or l j 0) ≡ put_at l j n s
+-- those from place i to place n moved one place on, and s put at place i
+pub put_moved : (l : List ℕ) (i n s : ℕ) → i ≤ n → n < length l → set (copy_within l i n (i + 1)) i s ≡ put_at l i n s
 unfolding put_at
-put_next l j n s h k =
-    let left : n - j ≡ suc (n - suc j) = omega arith in
-    let lt : j < length l = omega arith in
-    rw
-    (add-one j, take-suc-set l j s lt, append_snoc, drop-set-lt (suc j) l j s (omega arith), drop-set-lt (suc n) l j s (omega arith), left, drop-cons l j 0 lt)
+put_moved l i n s h k =
+    ap (λ (k : List ℕ). set k i s) (append_assoc front (take (n - i) (drop i l)) (drop (i + 1 + (n - i)) l))
+    ∙ set_split moved i s (omega (arith, length-append front rest, size))
+    ∙ ap₂ (λ (a b : List ℕ). a ++ (s ∷ b)) before behind
+  where
+    front : List ℕ
+    front = take (i + 1) l
 
-pub put_last : (l : List ℕ) (n s : ℕ) → n < length l → set l n s ≡ put_at l n n s
-unfolding put_at
-put_last l n s h = rw (set_split l n s h, sub_self n)
+    rest : List ℕ
+    rest = take (n - i) (drop i l) ++ drop (i + 1 + (n - i)) l
+
+    moved : List ℕ
+    moved = front ++ rest
+
+    size : length front ≡ i + 1
+    size = length-take-le (i + 1) l (omega arith)
+
+    before : take i moved ≡ take i l
+    before = take-append-le i front rest (omega (arith, size)) ∙ take-take i (i + 1) l (omega arith)
+
+    last : i + 1 + (n - i) ≡ suc n
+    last = omega arith
+
+    behind : drop (suc i) moved ≡ take (n - i) (drop i l) ++ drop (suc n) l
+    behind =
+        drop_at front rest (suc i) (size ∙ add-one i) ∙ ap (λ (m : ℕ). take (n - i) (drop i l) ++ drop m l) last

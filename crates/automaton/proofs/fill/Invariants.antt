@@ -1,15 +1,14 @@
 -- `automaton::fill` meets its contract. The loop's invariant: the productions left, marked in the buffer as it is, give what all of them give in the
--- emptied buffer; the measure is how many are left. Assumes nothing.
-use Rattle.meaning.proofs.Prelude.{ℕ, ◌≤◌, ◌≡◌, length, drop}
+-- emptied buffer. Assumes nothing.
+use Rattle.meaning.proofs.Prelude.{ℕ, ◌≤◌, ◌-◌, ◌≡◌, drop}
 use Rattle.fields.specs.Found.{contents_from}
 use Rattle.automaton.specs.Marking.{AreProductions}
 use Rattle.automaton.proofs.Turns.{mark_from}
 use Rattle.automaton.proofs.fill.Given as goal
 
-abbrev pub invariant-loop-left : goal.invariant-loop-left
-invariant-loop-left l = (length l.sets ≡ length l.initial.sets)
-    × ((types : ℕ) × (types ≤ 16) × AreProductions types l.arities l.left (contents_from l.left (drop l.at l.file)))
-    × (mark_from l.states l.arities l.file l.left l.at l.sets ≡ mark_from l.states l.arities l.file l.count l.from l.initial.sets)
-
-abbrev pub decreases-loop-left : goal.decreases-loop-left
-decreases-loop-left l = l.left
+abbrev pub invariant-loop : goal.invariant-loop
+invariant-loop l = record {
+  left : (types : ℕ) × (types ≤ 16) × AreProductions types l.arities (l.section.count - l.counter) (contents_from (l.section.count - l.counter) (drop l.at l.section.bytes.now));
+  marked : mark_from l.states l.arities l.section.bytes.now (l.section.count - l.counter) l.at l.sets
+      ≡ mark_from l.states l.arities l.section.bytes.now l.section.count l.section.from l.initial.sets;
+}

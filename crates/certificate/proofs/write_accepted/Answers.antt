@@ -1,70 +1,49 @@
 -- `certificate::write_accepted` meets its contract, with the atoms in the order of their cells. Assumes nothing.
-use Rattle.meaning.proofs.Prelude.{ℕ, List, ◌≡◌, refl, arith}
-use Rattle.meaning.proofs.Definitions.{states_of, analysed, Buffers}
-use Rattle.declarations.specs.declared.Known.{Known}
-use Rattle.declarations.specs.Known.{Knows, fields_read}
-use Rattle.analysis.specs.declared.Analysis.{Analysis}
-use Rattle.analysis.specs.Given.{given}
+use Rattle.meaning.proofs.Prelude.{◌≡◌, refl, lit≤, arith}
+use Rattle.meaning.proofs.Definitions.{model_of, written, Buffers}
+use Rattle.std.proofs.lemmas.Result.{err_from_is_err_and}
+use Rattle.acceptance.proofs.Asked.{predicates-counted, preds-within}
+use Rattle.analysis.proofs.Done.{holds-marks}
 use Rattle.sheet_writer.proofs.Sheets.{fit_whole, fit_short}
 use Rattle.certificate.proofs.Ends.{sheet_for, analysis-refused, sheet-short, done}
-use Rattle.certificate.proofs.Ready.{Ready, arities_fit, arities-long, cells-asked, marks_fit, marks-long, sheet-asked, put_is}
+use Rattle.certificate.proofs.Ready.{marks_fit, marks-long, sheet-asked, put_is}
 use Rattle.certificate.proofs.write_accepted.Goals as goal
+use Rattle.certificate.proofs.write_accepted.Goals.{In_ok-counts}
 
--- once the analysis has handed back 0
-ready : (file : List ℕ) (known : Known) (found : List ℕ) (before after : Buffers) (r : Analysis)
-    → Knows known (fields_read file)
-    → found ≡ states_of file
-    → given r after ≡ analysed file before
-    → r.answer.number ≡ 0
-    → Ready file known found before after r
-ready file known found before after r knows states is zero = record { knows = knows; states = states; is = is; zero = zero }
+pub returns-in_err-counts : goal.returns-in_err-counts
+returns-in_err-counts c = let before : Buffers = record { states = c.args.states.now; tables = c.args.tables.now; marks = c.args.marks.now; verdicts = c.args.verdicts.now } in
+    let p = err_from_is_err_and c.from_residual.result c.from_residual.ensures.1 in
+    rw (p.1, p.2) (analysis-refused c.args.accepted.now.file.now before c.args.sheet.now c.in_err-counts.field-0.0 c.in_err-counts.ensures)
 
-pub returns-then-answer-ne0 : goal.returns-then-answer-ne0
-returns-then-answer-ne0 c = let y = c.analyse_accepted-r in
-    analysis-refused c.args.file.now (record { states = c.args.states.now; tables = c.args.tables.now; marks = c.args.marks.now; verdicts = c.args.verdicts.now }) c.args.sheet.now {after = record { states = y.new.states; tables = y.new.tables; marks = y.new.marks; verdicts = y.new.verdicts }} c.refused_writing.ensures y.ensures (λ z. absurd (omega (arith, z)))
-
-pub slice_bounds-put_sheet-end : goal.slice_bounds-put_sheet-end
-slice_bounds-put_sheet-end c = let y = c.analyse_accepted-r in
-    marks_fit (ready c.args.file.now c.args.known c.args.found.now (record { states = c.args.states.now; tables = c.args.tables.now; marks = c.args.marks.now; verdicts = c.args.verdicts.now }) (record { states = y.new.states; tables = y.new.tables; marks = y.new.marks; verdicts = y.new.verdicts }) y.result c.requires.1 c.requires.2 y.ensures (omega arith)) c.wide-p.ensures.0 c.cells_of-size.ensures
-
-pub slice_bounds-put_sheet-end-2 : goal.slice_bounds-put_sheet-end-2
-slice_bounds-put_sheet-end-2 c = let y = c.analyse_accepted-r in
-    marks-long (ready c.args.file.now c.args.known c.args.found.now (record { states = c.args.states.now; tables = c.args.tables.now; marks = c.args.marks.now; verdicts = c.args.verdicts.now }) (record { states = y.new.states; tables = y.new.tables; marks = y.new.marks; verdicts = y.new.verdicts }) y.result c.requires.1 c.requires.2 y.ensures (omega arith)) c.wide-p.ensures.0 c.cells_of-size.ensures
-
-pub slice_bounds-predicates-end-2 : goal.slice_bounds-predicates-end-2
-slice_bounds-predicates-end-2 c = let y = c.analyse_accepted-r in
-    arities_fit (ready c.args.file.now c.args.known c.args.found.now (record { states = c.args.states.now; tables = c.args.tables.now; marks = c.args.marks.now; verdicts = c.args.verdicts.now }) (record { states = y.new.states; tables = y.new.tables; marks = y.new.marks; verdicts = y.new.verdicts }) y.result c.requires.1 c.requires.2 y.ensures (omega arith)) c.wide-p.ensures.0
-
-pub slice_bounds-put_sheet-end-3 : goal.slice_bounds-put_sheet-end-3
-slice_bounds-put_sheet-end-3 c = let y = c.analyse_accepted-r in
-    arities-long (ready c.args.file.now c.args.known c.args.found.now (record { states = c.args.states.now; tables = c.args.tables.now; marks = c.args.marks.now; verdicts = c.args.verdicts.now }) (record { states = y.new.states; tables = y.new.tables; marks = y.new.marks; verdicts = y.new.verdicts }) y.result c.requires.1 c.requires.2 y.ensures (omega arith)) c.wide-p.ensures.0
-
-pub put_sheet-requires : goal.put_sheet-requires
-put_sheet-requires c = let y = c.analyse_accepted-r in
-    sheet-asked (ready c.args.file.now c.args.known c.args.found.now (record { states = c.args.states.now; tables = c.args.tables.now; marks = c.args.marks.now; verdicts = c.args.verdicts.now }) (record { states = y.new.states; tables = y.new.tables; marks = y.new.marks; verdicts = y.new.verdicts }) y.result c.requires.1 c.requires.2 y.ensures (omega arith)) c.wide-p.ensures.0 c.cells_of-size.ensures
-
-pub returns-in-Whole : goal.returns-in-Whole
-returns-in-Whole c = let y = c.analyse_accepted-r in
-    let h = ready c.args.file.now c.args.known c.args.found.now (record { states = c.args.states.now; tables = c.args.tables.now; marks = c.args.marks.now; verdicts = c.args.verdicts.now }) (record { states = y.new.states; tables = y.new.tables; marks = y.new.marks; verdicts = y.new.verdicts }) y.result c.requires.1 c.requires.2 y.ensures (omega arith) in
-    let put = put_is h c.wide-p.ensures.0 c.cells_of-size.ensures c.args.sheet.now c.put_sheet.ensures in
-    let whole = fit_whole (sheet_for c.args.file.now) c.args.sheet.now put.0 c.in-Whole.is in
-    done c.args.file.now (record { states = c.args.states.now; tables = c.args.tables.now; marks = c.args.marks.now; verdicts = c.args.verdicts.now }) c.args.sheet.now h.is h.zero whole.0 put.1 (omega (arith, whole))
-
-pub returns-in-TooShort : goal.returns-in-TooShort
-returns-in-TooShort c = let y = c.analyse_accepted-r in
-    let h = ready c.args.file.now c.args.known c.args.found.now (record { states = c.args.states.now; tables = c.args.tables.now; marks = c.args.marks.now; verdicts = c.args.verdicts.now }) (record { states = y.new.states; tables = y.new.tables; marks = y.new.marks; verdicts = y.new.verdicts }) y.result c.requires.1 c.requires.2 y.ensures (omega arith) in
-    let put = put_is h c.wide-p.ensures.0 c.cells_of-size.ensures c.args.sheet.now c.put_sheet.ensures in
-    let short = fit_short (sheet_for c.args.file.now) c.args.sheet.now put.0 c.in-TooShort.is in
-    sheet-short c.args.file.now (record { states = c.args.states.now; tables = c.args.tables.now; marks = c.args.marks.now; verdicts = c.args.verdicts.now }) c.args.sheet.now h.is h.zero refl put.1 c.refused_writing-in-TooShort.ensures c.refusal.ensures short
-
-pub slice_bounds-predicates-end : goal.slice_bounds-predicates-end
-slice_bounds-predicates-end c = let y = c.analyse_accepted-r in
-    arities_fit (ready c.args.file.now c.args.known c.args.found.now (record { states = c.args.states.now; tables = c.args.tables.now; marks = c.args.marks.now; verdicts = c.args.verdicts.now }) (record { states = y.new.states; tables = y.new.tables; marks = y.new.marks; verdicts = y.new.verdicts }) y.result c.requires.1 c.requires.2 y.ensures (omega arith)) c.wide-p.ensures.0
-
-pub slice_bounds-cells_of-end : goal.slice_bounds-cells_of-end
-slice_bounds-cells_of-end c = let y = c.analyse_accepted-r in
-    arities-long (ready c.args.file.now c.args.known c.args.found.now (record { states = c.args.states.now; tables = c.args.tables.now; marks = c.args.marks.now; verdicts = c.args.verdicts.now }) (record { states = y.new.states; tables = y.new.tables; marks = y.new.marks; verdicts = y.new.verdicts }) y.result c.requires.1 c.requires.2 y.ensures (omega arith)) c.wide-p.ensures.0
+pub predicates-preds-requires : goal.predicates-preds-requires
+predicates-preds-requires c = predicates-counted c.requires
 
 pub cells_of-size-requires : goal.cells_of-size-requires
-cells_of-size-requires c = let y = c.analyse_accepted-r in
-    cells-asked (ready c.args.file.now c.args.known c.args.found.now (record { states = c.args.states.now; tables = c.args.tables.now; marks = c.args.marks.now; verdicts = c.args.verdicts.now }) (record { states = y.new.states; tables = y.new.tables; marks = y.new.marks; verdicts = y.new.verdicts }) y.result c.requires.1 c.requires.2 y.ensures (omega arith)) c.wide-p.ensures.0
+cells_of-size-requires c = preds-within c.requires c.predicates-preds.ensures 32 (lit≤ tt)
+
+-- the model in the marks
+held : (c : In_ok-counts) → c.analyse_accepted.new.marks ≡ written (model_of c.args.accepted.now.file.now) c.analyse_accepted.new.marks
+held c =
+    let before : Buffers = record { states = c.args.states.now; tables = c.args.tables.now; marks = c.args.marks.now; verdicts = c.args.verdicts.now } in
+    let new = c.analyse_accepted.new in
+    holds-marks c.args.accepted.now.file.now before (record { states = new.states; tables = new.tables; marks = new.marks; verdicts = new.verdicts }) c.in_ok-counts.counts c.in_ok-counts.ensures
+
+pub slice_bounds-put_sheet-end : goal.slice_bounds-put_sheet-end
+slice_bounds-put_sheet-end c = marks_fit c.requires (held (goal.at.slice_bounds-put_sheet-end c).In_ok-counts) c.predicates-preds.ensures c.cells_of-size.ensures
+
+pub slice_bounds-put_sheet-end-2 : goal.slice_bounds-put_sheet-end-2
+slice_bounds-put_sheet-end-2 c = marks-long c.requires (held (goal.at.slice_bounds-put_sheet-end-2 c).In_ok-counts) c.predicates-preds.ensures c.cells_of-size.ensures
+
+pub put_sheet-requires : goal.put_sheet-requires
+put_sheet-requires c = sheet-asked c.requires (held (goal.at.put_sheet-requires c).In_ok-counts) c.predicates-preds.ensures c.cells_of-size.ensures
+
+pub returns-in_default : goal.returns-in_default
+returns-in_default c = let before : Buffers = record { states = c.args.states.now; tables = c.args.tables.now; marks = c.args.marks.now; verdicts = c.args.verdicts.now } in
+    let put = put_is c.requires (held (goal.at.returns-in_default c).In_ok-counts) c.predicates-preds.ensures c.cells_of-size.ensures c.args.sheet.now c.put_sheet.ensures in
+    sheet-short c.args.accepted.now.file.now before c.args.sheet.now c.in_ok-counts.ensures refl put.1 (fit_short (sheet_for c.args.accepted.now.file.now) c.args.sheet.now put.0 c.in_default.is)
+
+pub returns : goal.returns
+returns c = let before : Buffers = record { states = c.args.states.now; tables = c.args.tables.now; marks = c.args.marks.now; verdicts = c.args.verdicts.now } in
+    let put = put_is c.requires (held (goal.at.returns c).In_ok-counts) c.predicates-preds.ensures c.cells_of-size.ensures c.args.sheet.now c.put_sheet.ensures in
+    let whole = fit_whole (sheet_for c.args.accepted.now.file.now) c.args.sheet.now put.0 c.in-Some.is in
+    done c.args.accepted.now.file.now before c.args.sheet.now c.in_ok-counts.ensures whole.0 put.1 (omega (arith, whole))

@@ -1,19 +1,18 @@
--- `declarations::is_name_taken` meets its contract: the names of a kind are looked through from where its fields start; only 1, 2 and 4 have names.
--- Assumes nothing.
-use Rattle.meaning.proofs.Prelude.{sym, inl, inr, arith}
-use Rattle.declarations.specs.Tests.{earlier_in}
-use Rattle.declarations.proofs.Tags.{no_name}
-use Rattle.declarations.proofs.Earlier.{taken_name, taken_type}
+-- `declarations::is_name_taken` meets its contract: of a type the whole content is the name. Assumes nothing.
+use Rattle.meaning.proofs.Prelude.{ℕ, sym, ap, ◌∙◌, List, map-id, or-false}
+use Rattle.meaning.specs.Lists.{any_of, same}
+use Rattle.fields.specs.Found.{contents_from}
+use Rattle.meaning.proofs.Prelude.{drop}
+use Rattle.declarations.specs.Tests.{taken_in}
+use Rattle.declarations.specs.Kinds.{meant}
+use Rattle.declarations.specs.declared.Kind.{Kind}
+use Rattle.meaning.specs.Limits.{tag_of}
 use Rattle.declarations.proofs.is_name_taken.Goals as goal
 
-pub returns-in-1 : goal.returns-in-1
-returns-in-1 c = taken_name c.args.file.now c.args.known c.args.content.now c.wide-t.ensures.0 c.rest.ensures (inl c.in-1.is) c.is_named_before.ensures
-
-pub returns-in-2 : goal.returns-in-2
-returns-in-2 c = taken_type c.args.file.now c.args.known c.args.content.now c.wide-t.ensures.0 c.in-2.is c.is_named_before-in-2.ensures
-
-pub returns-in-4 : goal.returns-in-4
-returns-in-4 c = taken_name c.args.file.now c.args.known c.args.content.now c.wide-t.ensures.0 c.rest-in-4.ensures (inr c.in-4.is) c.is_named_before-in-4.ensures
-
-pub returns-in_default : goal.returns-in_default
-returns-in_default c = sym (no_name c.args.tag (earlier_in c.args.file.now c.args.known c.args.tag) c.args.content.now (omega arith) (omega arith) (omega arith))
+pub returns-in-Type : goal.returns-in-Type
+returns-in-Type c = let a = c.args in
+    let earlier : List (List ℕ) = contents_from a.earlier.now.count (drop a.earlier.now.from a.earlier.now.bytes.now) in
+    c.is_named_before-in-Type.ensures
+    ∙ (ap (any_of (same a.content.now)) (map-id earlier)
+    ∙ (sym (or-false _)
+    ∙ ap (λ (kind : Kind). taken_in (tag_of (meant kind)) earlier a.content.now) (sym c.in-Type.is)))

@@ -7,4 +7,4 @@ pub returns-then-file-gt-MOST_FILE_BYTES : goal.returns-then-file-gt-MOST_FILE_B
 returns-then-file-gt-MOST_FILE_BYTES c = too_long c.args.file.now c.nothing-known.result (omega arith) c.nothing-known.ensures
 
 pub returns : goal.returns
-returns c = not-long c.args.file.now c.read_fields.result.known (omega arith) _ c.read_fields.ensures
+returns c = not-long c.args.file.now c.read_fields-outcome.new.known (omega arith) _ c.read_fields-outcome.ensures

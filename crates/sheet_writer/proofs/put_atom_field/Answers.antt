@@ -15,18 +15,18 @@ fits m n p c at sheet narrow row room = subst (λ (l : List ℕ). at + length l 
 
 pub slice_bounds-put_bytes-end-2 : goal.slice_bounds-put_bytes-end-2
 slice_bounds-put_bytes-end-2 c = let a = c.args in
-    omega (arith, ap (λ (l : List ℕ). length l) (row-part a.m a.n a.c c.wide-k.result c.row_at-row.result c.row_at-row.ensures c.wide-k.ensures.0), length-row_of a.m a.n a.c, c.wide-k.ensures.0)
+    omega (arith, ap (λ (l : List ℕ). length l) (row-part a.m a.n a.c c.from.result c.row_at-row.result c.row_at-row.ensures c.from.ensures), length-row_of a.m a.n a.c, c.from.ensures)
 
 pub put_bytes-requires : goal.put_bytes-requires
 put_bytes-requires c = let a = c.args in
-    let row = row-part a.m a.n a.c c.wide-k.result c.row_at-row.result c.row_at-row.ensures c.wide-k.ensures.0 in
-    put_room c.args.sheet.now c.args.at (atom_tag ∷ 0 ∷ (c.args.n + 1) ∷ c.args.p ∷ []) (take c.wide-k.result c.row_at-row.result) (fits a.m a.n a.p a.c a.at a.sheet.now c.requires.2 row c.requires.4)
+    let row = row-part a.m a.n a.c c.from.result c.row_at-row.result c.row_at-row.ensures c.from.ensures in
+    put_room c.args.sheet.now c.args.at (atom_tag ∷ 0 ∷ (c.args.n + 1) ∷ c.args.p ∷ []) (take c.from.result c.row_at-row.result) (fits a.m a.n a.p a.c a.at a.sheet.now c.requires.2 row c.requires.4)
     c.put_bytes-next.ensures
 
 pub returns : goal.returns
 returns c = let a = c.args in
-    let row = row-part a.m a.n a.c c.wide-k.result c.row_at-row.result c.row_at-row.ensures c.wide-k.ensures.0 in
+    let row = row-part a.m a.n a.c c.from.result c.row_at-row.result c.row_at-row.ensures c.from.ensures in
     subst (λ (l : List ℕ). Put a.sheet.now a.at l c.put_bytes.new.out c.put_bytes.result)
     (field_parts a.m a.n a.p a.c (omega arith) row)
-    (put_then a.sheet.now a.at (atom_tag ∷ 0 ∷ (a.n + 1) ∷ a.p ∷ []) (take c.wide-k.result c.row_at-row.result) (fits a.m a.n a.p a.c a.at a.sheet.now c.requires.2 row c.requires.4)
+    (put_then a.sheet.now a.at (atom_tag ∷ 0 ∷ (a.n + 1) ∷ a.p ∷ []) (take c.from.result c.row_at-row.result) (fits a.m a.n a.p a.c a.at a.sheet.now c.requires.2 row c.requires.4)
     c.put_bytes-next.ensures c.put_bytes.ensures)

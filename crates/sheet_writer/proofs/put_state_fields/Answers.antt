@@ -6,29 +6,27 @@ use Rattle.sheet_writer.specs.Parts.{state_fields}
 use Rattle.sheet_writer.proofs.Fields.{states-next, states-end, states-length}
 use Rattle.sheet_writer.proofs.put_state_fields.Goals as goal
 
-pub loop-i-init : goal.loop-i-init
-loop-i-init c = let a = c.args in
-    (omega arith, left_start a.sheet.now 0 (state_fields a.states.now) (omega (arith, states-length a.states.now)))
+pub loop-state-init : goal.loop-state-init
+loop-state-init c = let a = c.args in
+    left_start a.sheet.now 0 (state_fields a.states.now) (omega (arith, states-length a.states.now))
 
 pub put_state_field-at-requires : goal.put_state_field-at-requires
 put_state_field-at-requires c = let a = c.args in
-    let l = c.loop-i in
-    left_room a.sheet.now 0 (state_fields a.states.now) l.sheet l.at (encode_field state_tag (state_bytes (get_or a.states.now l.i 0))) (state_fields (drop (l.i + 1) a.states.now))
-    (states-next a.states.now l.i (omega arith)) l.invariant.1
+    let l = c.loop-state in
+    left_room a.sheet.now 0 (state_fields a.states.now) l.sheet l.at (encode_field state_tag (state_bytes (get_or a.states.now l.state-index 0))) (state_fields (drop (l.state-index + 1) a.states.now))
+    (states-next a.states.now l.state-index (omega arith)) l.invariant
 
-pub loop-i-preserved : goal.loop-i-preserved
-loop-i-preserved c = let a = c.args in
-    let l = c.loop-i in (
-      omega arith,
-      left_next a.sheet.now 0 (state_fields a.states.now) l.sheet l.at (encode_field state_tag (state_bytes (get_or a.states.now l.i 0))) (state_fields (drop (l.i + 1) a.states.now))
-          (states-next a.states.now l.i (omega arith)) l.invariant.1 c.put_state_field-at.ensures,
-    )
+pub loop-state-preserved : goal.loop-state-preserved
+loop-state-preserved c = let a = c.args in
+    let l = c.loop-state in
+    left_next a.sheet.now 0 (state_fields a.states.now) l.sheet l.at (encode_field state_tag (state_bytes (get_or a.states.now l.state-index 0))) (state_fields (drop (l.state-index + 1) a.states.now))
+    (states-next a.states.now l.state-index (omega arith)) l.invariant c.put_state_field-at.ensures
 
 pub returns : goal.returns
 returns c = let a = c.args in
-    let l = c.loop-i in
-    let w = left_end a.sheet.now 0 (state_fields a.states.now) l.sheet l.at (states-end a.states.now l.i (omega arith)) l.invariant.1 in
+    let l = c.loop-state in
+    let w = left_end a.sheet.now 0 (state_fields a.states.now) l.sheet l.at (states-end a.states.now l.state-index (omega arith)) l.invariant in
     (w.0, omega (arith, w.1, states-length a.states.now))
 
 pub shape_of-sheet : goal.shape_of-sheet
-shape_of-sheet c = c.loop-i.invariant.1.1
+shape_of-sheet c = c.loop-state.invariant.1
