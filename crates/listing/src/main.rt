@@ -2,136 +2,59 @@
 
 #![tactic(auto)]
 
-ghost use Rattle.std.specs.Prelude.{◌+◌, ◌≤◌, ◌≡◌, IfOk, length};
+ghost use Rattle.std.specs.Prelude.{◌≡◌, length};
 ghost use Rattle.meaning.specs.Calls.{rounds_of, atoms_of};
 ghost use Rattle.declarations.specs.Known.{Knows, fields_read};
 ghost use Rattle.listing_text.specs.Listing.{Results};
-ghost use Rattle.analysis.specs.Given.{Filled};
 
-use declarations::Known;
+use listing_text::Findings;
 use std::io;
-use std::io::Read;
+use std::io::{BufWriter, Read, Write};
 
 // How much of a rule file is read: of a longer file this start is refused as the whole is.
 const FILE: u64 = 65536;
 
-// Room for the pieces of a listing that are written out at a time.
-const OUT: usize = 4096;
-
-// Where the next piece is put: after the last one, or at the start of the buffer, which is written out where it has no room for a piece.
-fn flush(rt: &impl Print, out: &[u8], at: usize) -> io::Result<usize>
-    requires { (at ≤ length out.now) × (128 ≤ length out.now) }
-    ensures { IfOk result (λ next. next + 128 ≤ length out.now) }
+// The pieces of a listing one after the other.
+fn write_pieces(out: &mut impl Write, findings: &Findings) -> io::Result<()>
+    requires results { Results findings.now.file.now findings.now.states.now findings.now.marks.now findings.now.verdicts.now × Knows findings.now.known.now (fields_read findings.now.file.now) }
+    requires counts { (findings.now.atoms ≡ length (atoms_of findings.now.file.now)) × (findings.now.rounds ≡ rounds_of findings.now.file.now) }
 {
-    if out.len() - at < listing_text::PIECE {
-        rt.write_all(&out[..at])?;
-        return Ok(0);
+    let mut piece = [0u8; listing_text::PIECE];
+    for k in 0..findings.piece_count() {
+        let n = findings.put_piece(&mut piece, 0, k);
+        out.write_all(&piece[..n])?;
     }
-    Ok(at)
+    Ok(())
 }
 
-// The pieces of the listing one after the other, as many at a time as the buffer holds.
-fn print_pieces(
-    rt: &impl Print,
-    file: &[u8],
-    known: Known,
-    states: &[u16],
-    marks: &[u8],
-    verdicts: &[u8],
-    atoms: usize,
-    rounds: usize,
-    out: &mut [u8],
-) -> io::Result<()>
-    requires { Results file.now states.now marks.now verdicts.now × Knows known (fields_read file.now) × (atoms ≡ length (atoms_of file.now)) × (rounds ≡ rounds_of file.now) × (128 ≤ length out.old) }
-{
-    let count = listing_text::piece_count(states, marks, verdicts);
-    let mut at = 0;
-    let mut k = 0;
-    while k < count {
-        let next = flush(rt, out, at)?;
-        at = listing_text::put_piece(
-            out, next, k, file, known, states, marks, verdicts, atoms, rounds,
-        );
-        k += 1;
-    }
-    rt.write_all(&out[..at])
-}
-
-// The listing of an accepted file, from the buffers that its analysis filled.
-fn print_results(
-    rt: &impl Print,
-    file: &[u8],
-    m: usize,
-    states: &[u16],
-    marks: &[u8],
-    verdicts: &[u8],
-    atoms: usize,
-    rounds: usize,
-    out: &mut [u8],
-) -> io::Result<()>
-    requires { Filled file.now m states.now marks.now verdicts.now × (atoms ≡ length (atoms_of file.now)) × (rounds ≡ rounds_of file.now) × (128 ≤ length out.old) }
-{
-    let reading = parser::read(file);
-    let known = reading.known;
-    let counts = known.counts;
-    let predicates = known.predicates;
-    let p = byte_runs::wide(counts[declarations::PREDICATES]);
-    let queries = byte_runs::wide(counts[declarations::QUERIES]);
-    let size = cells::cells_of(&predicates[..p], m);
-    print_pieces(
-        rt,
-        file,
-        known,
-        &states[..m],
-        &marks[..size],
-        &verdicts[..queries],
-        atoms,
-        rounds,
-        out,
-    )
-}
-
-// The listing of a file, by its analysis in the lent buffers.
-fn list(
-    rt: &impl Print,
-    file: &[u8],
-    states: &mut [u16],
-    tables: &mut [u8],
-    marks: &mut [u8],
-    verdicts: &mut [u8],
-    out: &mut [u8],
-) -> io::Result<()>
-    requires { 128 ≤ length out.old }
-{
-    let answered = listing_answer::answer(file, states, tables, marks, verdicts, out);
-    let n = answered.text;
-    rt.write_all(&out[..n])?;
-    let r = answered.analysis;
-    let answer = r.answer;
-    if answer.number != 0 {
-        return Ok(());
-    }
-    print_results(
-        rt, file, r.states, states, marks, verdicts, r.atoms, r.rounds, out,
-    )
-}
-
-// The buffers are as long as any file needs.
-fn main(rt: HostRuntime) -> io::Result<()> {
-    let mut file = Vec::new(rt.alloc());
-    rt.reader().take(FILE).read_to_end(&mut file)?;
+// The listing of a file. The buffers are as long as any file needs.
+fn write_listing(out: &mut impl Write, file: &[u8]) -> io::Result<()> {
     let mut states = [0u16; buffers::STATES];
     let mut tables = [0u8; buffers::TABLES];
     let mut marks = [0u8; buffers::MARKS];
     let mut verdicts = [0u8; buffers::VERDICTS];
-    let mut out = [0u8; OUT];
-    list(
-        &rt,
-        &file,
+    let mut line = [0u8; listing_text::PIECE];
+    let answered = listing_answer::answer(
+        file,
         &mut states,
         &mut tables,
         &mut marks,
         &mut verdicts,
-        &mut out,
-    )
+        &mut line,
+    );
+    let analysis = answered.analysis;
+    if analysis.answer.number != 0 {
+        return out.write_all(&line[..answered.text]);
+    }
+    let known = parser::read(file).known;
+    let findings = listing_answer::findings(file, &known, &analysis, &states, &marks, &verdicts);
+    write_pieces(out, &findings)
+}
+
+fn main(rt: HostRuntime) -> io::Result<()> {
+    let mut file = Vec::new(rt.alloc());
+    rt.reader().take(FILE).read_to_end(&mut file)?;
+    let mut out = BufWriter::new(rt.alloc(), io::writer(&rt))?;
+    write_listing(&mut out, &file)?;
+    out.flush()
 }

@@ -26,6 +26,18 @@ const SPACE: u8 = b' ';
 
 const LINE_END: u8 = b'\n';
 
+// What a listing is put together from: an accepted file, what is known of it, and what its analysis wrote, each part as long as the file needs.
+#[derive(Clone, Copy)]
+pub struct Findings<'a> {
+    pub file: &'a [u8],
+    pub known: &'a Known,
+    pub states: &'a [u16],
+    pub marks: &'a [u8],
+    pub verdicts: &'a [u8],
+    pub atoms: usize,
+    pub rounds: usize,
+}
+
 // A place of the marks: the predicate whose segment it lies in, and the cell that it is there.
 #[derive(Clone, Copy)]
 struct Place {
@@ -74,76 +86,11 @@ fn put_type(out: &mut [u8], at: usize, state: u16, t: u8, name: &[u8]) -> usize
     ensures { Put out.old at (held_name state t name.now) out.new result }
 {
     let types = TypeSet { bits: state };
-    if types.has(t) {
-        let next = byte_runs::put_byte(out, at, SPACE);
-        return byte_runs::put_bytes(out, next, name);
+    if !types.has(t) {
+        return at;
     }
-    at
-}
-
-// The names of the types that a state holds, a space before each.
-fn put_types(out: &mut [u8], at: usize, state: u16, file: &[u8], known: Known) -> usize
-    requires file_value { (file_answer file.now ≡ accepted) × Knows known (fields_read file.now) }
-    requires file_in_bounds { at + length (held_names state 0 (rules_of file.now).types) ≤ length out.old }
-    ensures { Put out.old at (held_names state 0 (rules_of file.now).types) out.new result }
-{
-    let counts = known.counts;
-    let starts = known.starts;
-    let n = counts[declarations::TYPES];
-    let from = starts[declarations::TYPES];
-    let mut next = at;
-    let mut t: u8 = 0;
-    while t < n {
-        let name = fields::nth_content(file, from, byte_runs::wide(t));
-        next = put_type(out, next, state, t, name);
-        t += 1;
-    }
-    next
-}
-
-// The same, or ` -` where the state holds no type.
-fn put_held(out: &mut [u8], at: usize, state: u16, file: &[u8], known: Known) -> usize
-    requires file_value { (file_answer file.now ≡ accepted) × Knows known (fields_read file.now) }
-    requires file_in_bounds { at + length (or_dash (held_names state 0 (rules_of file.now).types)) ≤ length out.old }
-    ensures { Put out.old at (or_dash (held_names state 0 (rules_of file.now).types)) out.new result }
-{
-    let next = put_types(out, at, state, file, known);
-    if next == at {
-        return byte_runs::put_bytes(out, at, b" -");
-    }
-    next
-}
-
-// The line of state number i.
-fn put_state(out: &mut [u8], at: usize, i: usize, state: u16, file: &[u8], known: Known) -> usize
-    requires file_value { (file_answer file.now ≡ accepted) × Knows known (fields_read file.now) }
-    requires state_in_bounds { at + length (state_text (rules_of file.now).types i state) ≤ length out.old }
-    ensures { Put out.old at (state_text (rules_of file.now).types i state) out.new result }
-{
-    let from = text::put_decimal(out, at, i);
-    let to = put_held(out, from, state, file, known);
-    byte_runs::put_byte(out, to, LINE_END)
-}
-
-// The word of a verdict.
-fn put_verdict(out: &mut [u8], at: usize, verdict: u8) -> usize
-    requires { at + length (cond (eqb verdict 0) clear_word open_word) ≤ length out.old }
-    ensures { Put out.old at (cond (eqb verdict 0) clear_word open_word) out.new result }
-{
-    if verdict == 0 {
-        return byte_runs::put_bytes(out, at, b" CLEAR");
-    }
-    byte_runs::put_bytes(out, at, b" OPEN")
-}
-
-// The line of query number i.
-fn put_query(out: &mut [u8], at: usize, i: usize, verdict: u8) -> usize
-    requires { at + length (query_text i verdict) ≤ length out.old }
-    ensures { Put out.old at (query_text i verdict) out.new result }
-{
-    let from = text::put_decimal(out, at, i);
-    let to = put_verdict(out, from, verdict);
-    byte_runs::put_byte(out, to, LINE_END)
+    let next = byte_runs::put_byte(out, at, SPACE);
+    byte_runs::put_bytes(out, next, name)
 }
 
 // A space and a number for each state of a row.
@@ -152,10 +99,8 @@ fn put_row(out: &mut [u8], at: usize, row: &[u8]) -> usize
     ensures { Put out.old at (row_text row.now) out.new result }
 {
     let mut next = at;
-    let mut i = 0;
-    while i < row.len() {
-        next = put_number(out, next, b" ", byte_runs::wide(row[i]));
-        i += 1;
+    for state in row {
+        next = put_number(out, next, b" ", usize::from(*state));
     }
     next
 }
@@ -170,153 +115,170 @@ fn put_atom(out: &mut [u8], at: usize, name: &[u8], row: &[u8]) -> usize
     byte_runs::put_byte(out, to, LINE_END)
 }
 
+// The word of a verdict.
+fn put_verdict(out: &mut [u8], at: usize, verdict: u8) -> usize
+    requires { at + length (cond (eqb verdict 0) clear_word open_word) ≤ length out.old }
+    ensures { Put out.old at (cond (eqb verdict 0) clear_word open_word) out.new result }
+{
+    if verdict == 0 {
+        byte_runs::put_bytes(out, at, b" CLEAR")
+    } else {
+        byte_runs::put_bytes(out, at, b" OPEN")
+    }
+}
+
+// The line of query number i.
+fn put_query(out: &mut [u8], at: usize, i: usize, verdict: u8) -> usize
+    requires { at + length (query_text i verdict) ≤ length out.old }
+    ensures { Put out.old at (query_text i verdict) out.new result }
+{
+    let from = text::put_decimal(out, at, i);
+    let to = put_verdict(out, from, verdict);
+    byte_runs::put_byte(out, to, LINE_END)
+}
+
 // The predicate and the cell of place j of the marks.
 fn place_of(arities: &[u8], m: usize, j: usize) -> Place
     requires { (m ≤ 16) × All (λ n. n ≤ 4) arities.now × (j < cells m arities.now) }
     ensures { (result.predicate < length arities.now) × (result.cell < m ^ get_or arities.now result.predicate 0) × (j ≡ start m arities.now result.predicate + result.cell) }
 {
-    let mut p: usize = 0;
     let mut cell = j;
-    let mut size = cells::power(m, arities[0]);
-    while size <= cell {
-        cell = cell - size;
-        p += 1;
-        size = cells::power(m, arities[p]);
+    for (predicate, arity) in arities.iter().enumerate() {
+        let size = cells::power(m, *arity);
+        if cell < size {
+            return Place { predicate, cell };
+        }
+        cell -= size;
     }
-    Place { predicate: p, cell }
+    // Not reached: each place lies in a segment.
+    Place { predicate: 0, cell }
 }
 
-// The line of the atom of predicate p at a cell of its segment.
-fn put_cell(
-    out: &mut [u8],
-    at: usize,
-    p: usize,
-    cell: usize,
-    file: &[u8],
-    known: Known,
-    m: usize,
-) -> usize
-    requires file_value { (file_answer file.now ≡ accepted) × Knows known (fields_read file.now) × (m ≡ length (states_of file.now)) }
-    requires p_in_bounds { (p < length (predicate_arities file.now)) × (cell < m ^ get_or (predicate_arities file.now) p 0) × (at + 128 ≤ length out.old) }
-    ensures { Put out.old at (atom_line file.now (p ∷ row_of m (get_or (predicate_arities file.now) p 0) cell)) out.new result × (result ≤ at + 128) }
-{
-    let starts = known.starts;
-    let predicates = known.predicates;
-    let arity = predicates[p];
-    let row = cells::row_at(cell, m, arity);
-    let content = fields::nth_content(file, starts[declarations::PREDICATES], p);
-    let n = byte_runs::wide(arity);
-    put_atom(out, at, &content[1..], &row[..n])
-}
-
-// The line of the atom at place j of the marks, if it is in the model.
-fn put_place(
-    out: &mut [u8],
-    at: usize,
-    j: usize,
-    file: &[u8],
-    known: Known,
-    m: usize,
-    marks: &[u8],
-) -> usize
-    requires file_value { (file_answer file.now ≡ accepted) × Knows known (fields_read file.now) × (m ≡ length (states_of file.now)) }
-    requires marks_value { (marks.now ≡ model_of file.now) × (j < length marks.now) × (at + 128 ≤ length out.old) }
-    ensures { Put out.old at (place_line file.now j) out.new result × (result ≤ at + 128) }
-{
-    if marks[j] == 0 {
-        return at;
+impl Findings<'_> {
+    // The names of the types that a state holds, a space before each.
+    fn put_types(&self, out: &mut [u8], at: usize, state: u16) -> usize
+        requires file_value { (file_answer self.now.file.now ≡ accepted) × Knows self.now.known.now (fields_read self.now.file.now) }
+        requires file_in_bounds { at + length (held_names state 0 (rules_of self.now.file.now).types) ≤ length out.old }
+        ensures { Put out.old at (held_names state 0 (rules_of self.now.file.now).types) out.new result }
+    {
+        let from = self.known.starts[declarations::TYPES];
+        let mut next = at;
+        for t in 0..self.known.counts[declarations::TYPES] {
+            let name = fields::nth_content(self.file, from, usize::from(t));
+            next = put_type(out, next, state, t, name);
+        }
+        next
     }
-    let counts = known.counts;
-    let predicates = known.predicates;
-    let n = byte_runs::wide(counts[declarations::PREDICATES]);
-    let place = place_of(&predicates[..n], m, j);
-    put_cell(out, at, place.predicate, place.cell, file, known, m)
-}
 
-// Piece k of the states: how many there are, then a line for each.
-fn put_states(
-    out: &mut [u8],
-    at: usize,
-    k: usize,
-    file: &[u8],
-    known: Known,
-    states: &[u16],
-) -> usize
-    requires file_value { (file_answer file.now ≡ accepted) × Knows known (fields_read file.now) }
-    requires states_len_bound { (length states.now ≤ 16) × (k ≤ length states.now) × (at + 128 ≤ length out.old) }
-    ensures { Put out.old at (states_text (rules_of file.now).types states.now k) out.new result × (result ≤ at + 128) }
-{
-    if k == 0 {
-        return put_count(out, at, b"states ", states.len());
+    // The same, or ` -` where the state holds no type.
+    fn put_held(&self, out: &mut [u8], at: usize, state: u16) -> usize
+        requires file_value { (file_answer self.now.file.now ≡ accepted) × Knows self.now.known.now (fields_read self.now.file.now) }
+        requires file_in_bounds { at + length (or_dash (held_names state 0 (rules_of self.now.file.now).types)) ≤ length out.old }
+        ensures { Put out.old at (or_dash (held_names state 0 (rules_of self.now.file.now).types)) out.new result }
+    {
+        let next = self.put_types(out, at, state);
+        if next == at {
+            byte_runs::put_bytes(out, at, b" -")
+        } else {
+            next
+        }
     }
-    put_state(out, at, k - 1, states[k - 1], file, known)
-}
 
-// Piece j of the model: its counts, then a piece for each place of the marks.
-fn put_model(
-    out: &mut [u8],
-    at: usize,
-    j: usize,
-    file: &[u8],
-    known: Known,
-    m: usize,
-    marks: &[u8],
-    atoms: usize,
-    rounds: usize,
-) -> usize
-    requires file_value { (file_answer file.now ≡ accepted) × Knows known (fields_read file.now) × (m ≡ length (states_of file.now)) }
-    requires marks_value { (marks.now ≡ model_of file.now) × (j ≤ length marks.now) × (at + 128 ≤ length out.old) }
-    ensures { Put out.old at (model_text file.now atoms rounds j) out.new result × (result ≤ at + 128) }
-{
-    if j == 0 {
-        return put_counts(out, at, b"model ", atoms, b" rounds ", rounds);
+    // The line of state number i.
+    fn put_state(&self, out: &mut [u8], at: usize, i: usize, state: u16) -> usize
+        requires file_value { (file_answer self.now.file.now ≡ accepted) × Knows self.now.known.now (fields_read self.now.file.now) }
+        requires state_in_bounds { at + length (state_text (rules_of self.now.file.now).types i state) ≤ length out.old }
+        ensures { Put out.old at (state_text (rules_of self.now.file.now).types i state) out.new result }
+    {
+        let from = text::put_decimal(out, at, i);
+        let to = self.put_held(out, from, state);
+        byte_runs::put_byte(out, to, LINE_END)
     }
-    put_place(out, at, j - 1, file, known, m, marks)
-}
 
-// Piece i of the queries: how many there are, then a line for each.
-fn put_queries(out: &mut [u8], at: usize, i: usize, verdicts: &[u8]) -> usize
-    requires { (i ≤ length verdicts.now) × (at + 128 ≤ length out.old) }
-    ensures { Put out.old at (queries_text verdicts.now i) out.new result × (result ≤ at + 128) }
-{
-    if i == 0 {
-        return put_count(out, at, b"queries ", verdicts.len());
+    // The line of the atom of predicate p at a cell of its segment.
+    fn put_cell(&self, out: &mut [u8], at: usize, p: usize, cell: usize) -> usize
+        requires file_value { (file_answer self.now.file.now ≡ accepted) × Knows self.now.known.now (fields_read self.now.file.now) × (length self.now.states.now ≡ length (states_of self.now.file.now)) }
+        requires p_in_bounds { (p < length (predicate_arities self.now.file.now)) × (cell < length self.now.states.now ^ get_or (predicate_arities self.now.file.now) p 0) × (at + 128 ≤ length out.old) }
+        ensures { Put out.old at (atom_line self.now.file.now (p ∷ row_of (length self.now.states.now) (get_or (predicate_arities self.now.file.now) p 0) cell)) out.new result × (result ≤ at + 128) }
+    {
+        let arity = self.known.predicates[p];
+        let row = cells::row_at(cell, self.states.len(), arity);
+        let from = self.known.starts[declarations::PREDICATES];
+        let content = fields::nth_content(self.file, from, p);
+        put_atom(out, at, &content[1..], &row[..usize::from(arity)])
     }
-    put_query(out, at, i - 1, verdicts[i - 1])
-}
 
-// How many pieces the listing of an accepted file has. The file itself stands in the contract only.
-pub fn piece_count(states: &[u16], marks: &[u8], verdicts: &[u8]) -> usize
-    requires { (file : List ℕ) × Results file states.now marks.now verdicts.now }
-    ensures { (file : List ℕ) → Results file states.now marks.now verdicts.now → result ≡ pieces file }
-{
-    states.len() + marks.len() + verdicts.len() + HEADINGS
-}
+    // The line of the atom at place j of the marks, if it is in the model.
+    fn put_place(&self, out: &mut [u8], at: usize, j: usize) -> usize
+        requires file_value { (file_answer self.now.file.now ≡ accepted) × Knows self.now.known.now (fields_read self.now.file.now) × (length self.now.states.now ≡ length (states_of self.now.file.now)) }
+        requires marks_value { (self.now.marks.now ≡ model_of self.now.file.now) × (j < length self.now.marks.now) × (at + 128 ≤ length out.old) }
+        ensures { Put out.old at (place_line self.now.file.now j) out.new result × (result ≤ at + 128) }
+    {
+        if self.marks[j] == 0 {
+            return at;
+        }
+        let n = usize::from(self.known.counts[declarations::PREDICATES]);
+        let place = place_of(&self.known.predicates[..n], self.states.len(), j);
+        self.put_cell(out, at, place.predicate, place.cell)
+    }
 
-// Piece k of the listing of an accepted file. No piece is longer than 128 bytes.
-pub fn put_piece(
-    out: &mut [u8],
-    at: usize,
-    k: usize,
-    file: &[u8],
-    known: Known,
-    states: &[u16],
-    marks: &[u8],
-    verdicts: &[u8],
-    atoms: usize,
-    rounds: usize,
-) -> usize
-    requires results { Results file.now states.now marks.now verdicts.now × Knows known (fields_read file.now) }
-    requires atoms_value { (atoms ≡ length (atoms_of file.now)) × (rounds ≡ rounds_of file.now) × (k < pieces file.now) × (at + 128 ≤ length out.old) }
-    ensures { Put out.old at (piece file.now k) out.new result × (result ≤ at + 128) }
-{
-    let m = states.len();
-    if k <= m {
-        return put_states(out, at, k, file, known, states);
+    // Piece k of the states: how many there are, then a line for each.
+    fn put_states(&self, out: &mut [u8], at: usize, k: usize) -> usize
+        requires file_value { (file_answer self.now.file.now ≡ accepted) × Knows self.now.known.now (fields_read self.now.file.now) }
+        requires states_len_bound { (length self.now.states.now ≤ 16) × (k ≤ length self.now.states.now) × (at + 128 ≤ length out.old) }
+        ensures { Put out.old at (states_text (rules_of self.now.file.now).types self.now.states.now k) out.new result × (result ≤ at + 128) }
+    {
+        if k == 0 {
+            return put_count(out, at, b"states ", self.states.len());
+        }
+        self.put_state(out, at, k - 1, self.states[k - 1])
     }
-    let j = k - m - 1;
-    if j <= marks.len() {
-        return put_model(out, at, j, file, known, m, marks, atoms, rounds);
+
+    // Piece j of the model: its counts, then a piece for each place of the marks.
+    fn put_model(&self, out: &mut [u8], at: usize, j: usize) -> usize
+        requires file_value { (file_answer self.now.file.now ≡ accepted) × Knows self.now.known.now (fields_read self.now.file.now) × (length self.now.states.now ≡ length (states_of self.now.file.now)) }
+        requires marks_value { (self.now.marks.now ≡ model_of self.now.file.now) × (j ≤ length self.now.marks.now) × (at + 128 ≤ length out.old) }
+        ensures { Put out.old at (model_text self.now.file.now self.now.atoms self.now.rounds j) out.new result × (result ≤ at + 128) }
+    {
+        if j == 0 {
+            return put_counts(out, at, b"model ", self.atoms, b" rounds ", self.rounds);
+        }
+        self.put_place(out, at, j - 1)
     }
-    put_queries(out, at, j - marks.len() - 1, verdicts)
+
+    // Piece i of the queries: how many there are, then a line for each.
+    fn put_queries(&self, out: &mut [u8], at: usize, i: usize) -> usize
+        requires { (i ≤ length self.now.verdicts.now) × (at + 128 ≤ length out.old) }
+        ensures { Put out.old at (queries_text self.now.verdicts.now i) out.new result × (result ≤ at + 128) }
+    {
+        if i == 0 {
+            return put_count(out, at, b"queries ", self.verdicts.len());
+        }
+        put_query(out, at, i - 1, self.verdicts[i - 1])
+    }
+
+    // How many pieces the listing has. What they need is said of some file, which need not be the one at hand.
+    pub fn piece_count(&self) -> usize
+        requires { (file : List ℕ) × Results file self.now.states.now self.now.marks.now self.now.verdicts.now }
+        ensures { (file : List ℕ) → Results file self.now.states.now self.now.marks.now self.now.verdicts.now → result ≡ pieces file }
+    {
+        self.states.len() + self.marks.len() + self.verdicts.len() + HEADINGS
+    }
+
+    // Piece k of the listing. No piece is longer than 128 bytes.
+    pub fn put_piece(&self, out: &mut [u8], at: usize, k: usize) -> usize
+        requires results { Results self.now.file.now self.now.states.now self.now.marks.now self.now.verdicts.now × Knows self.now.known.now (fields_read self.now.file.now) }
+        requires atoms_value { (self.now.atoms ≡ length (atoms_of self.now.file.now)) × (self.now.rounds ≡ rounds_of self.now.file.now) × (k < pieces self.now.file.now) × (at + 128 ≤ length out.old) }
+        ensures { Put out.old at (piece self.now.file.now k) out.new result × (result ≤ at + 128) }
+    {
+        let m = self.states.len();
+        if k <= m {
+            return self.put_states(out, at, k);
+        }
+        let j = k - m - 1;
+        if j <= self.marks.len() {
+            return self.put_model(out, at, j);
+        }
+        self.put_queries(out, at, j - self.marks.len() - 1)
+    }
 }

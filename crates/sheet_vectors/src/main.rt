@@ -4,8 +4,7 @@
 
 #![tactic(auto)]
 
-ghost use Rattle.std.specs.Prelude.{◌+◌, ◌≤◌, ◌<◌, ◌≡◌, true, IfOk, length, get_or};
-ghost use Rattle.meaning.specs.Fields.{word};
+ghost use Rattle.std.specs.Prelude.{◌≡◌, true, IfOk};
 ghost use Rattle.sheet_vectors.specs.Expected.{IsSheet};
 
 use std::io;
@@ -15,99 +14,71 @@ const MARKS: usize = 8192;
 
 const SHEET: usize = 8192;
 
-// What is expected of a sheet: the answer's number, from here on its place in two bytes, how many table cells there are in two, these, and the sheet itself.
-const PLACE: usize = 1;
-
-const COUNT: usize = 3;
-
-const CELLS: usize = 5;
-
-// Two bytes as a number, high byte first.
-fn word_at(s: &[u8], at: usize) -> usize
-    requires { at + 2 ≤ length s.now }
-    ensures { (result ≡ word (get_or s.now at 0) (get_or s.now (at + 1) 0)) × (result < 65536) }
-{
-    byte_runs::wide(s[at]) * 256 + byte_runs::wide(s[at + 1])
-}
-
-// Whether a file's tables are in a buffer, and a sheet for it is answered as expected.
-fn is_checked(file: &[u8], expected: &[u8], tables: &mut [u8], marks: &mut [u8]) -> bool {
-    if expected.len() < CELLS {
+// Whether a sheet for a file is answered, and the file's tables written, as expected. What is expected: the answer's number, its place in two bytes, how
+// many table cells there are in two, these, and the sheet itself.
+fn is_checked(file: &[u8], expected: &[u8]) -> bool {
+    let [
+        number,
+        place_high,
+        place_low,
+        count_high,
+        count_low,
+        rest @ ..,
+    ] = expected
+    else {
         return false;
-    }
-    let size = word_at(expected, COUNT);
-    let from = CELLS + size;
-    if expected.len() < from {
+    };
+    let place = u16::from_be_bytes([*place_high, *place_low]);
+    let count = u16::from_be_bytes([*count_high, *count_low]);
+    let Some((cells, sheet)) = rest.split_at_checked(usize::from(count)) else {
         return false;
-    }
-    if tables.len() < size {
-        return false;
-    }
-    let answer = sheet_check::check(file, &expected[from..], tables, marks);
-    if answer.number != byte_runs::wide(expected[0]) {
-        return false;
-    }
-    if answer.place != word_at(expected, PLACE) {
-        return false;
-    }
-    byte_runs::same(&tables[..size], &expected[CELLS..from])
-}
-
-// Whether a sheet is answered, and the tables written, as expected; if not, that is printed.
-fn compare_check(rt: &impl Print, path: &[u8], file: &[u8], expected: &[u8]) -> io::Result<bool> {
+    };
     let mut tables = [0u8; buffers::TABLES];
     let mut marks = [0u8; MARKS];
-    if is_checked(file, expected, &mut tables, &mut marks) {
-        return Ok(true);
-    }
-    folders::print_about(rt, path, "other answer to the sheet, or other tables")?;
-    Ok(false)
+    let answer = sheet_check::check(file, sheet, &mut tables, &mut marks);
+    answer.number == usize::from(*number)
+        && answer.place == usize::from(place)
+        && tables.starts_with(cells)
 }
 
-// Whether some bytes are the sheet that is written for a file, in the lent buffers.
-fn is_sheet(
-    file: &[u8],
-    expected: &[u8],
-    states: &mut [u16],
-    tables: &mut [u8],
-    marks: &mut [u8],
-    verdicts: &mut [u8],
-    sheet: &mut [u8],
-) -> bool
+// The same; if it is not, that is printed.
+fn compare_check(rt: &impl Print, path: &[u8], file: &[u8], expected: &[u8]) -> io::Result<bool> {
+    let is = is_checked(file, expected);
+    if !is {
+        folders::print_about(rt, path, "other answer to the sheet, or other tables")?;
+    }
+    Ok(is)
+}
+
+// Whether some bytes are the sheet that is written for a file.
+fn is_sheet(file: &[u8], expected: &[u8]) -> bool
     ensures { result ≡ true → IsSheet file.now expected.now }
-{
-    let r = certificate::write(file, states, tables, marks, verdicts, sheet);
-    let answer = r.answer;
-    if answer.number != 0 {
-        return false;
-    }
-    let n = r.bytes;
-    byte_runs::same(&sheet[..n], expected)
-}
-
-// Whether some bytes are the sheet that is written for a file; if not, that is printed.
-fn compare_sheet(rt: &impl Print, path: &[u8], file: &[u8], expected: &[u8]) -> io::Result<bool>
-    ensures { IfOk result (λ is. is ≡ true → IsSheet file.now expected.now) }
 {
     let mut states = [0u16; buffers::STATES];
     let mut tables = [0u8; buffers::TABLES];
     let mut marks = [0u8; MARKS];
     let mut verdicts = [0u8; buffers::VERDICTS];
     let mut sheet = [0u8; SHEET];
-    let is = is_sheet(
+    let r = certificate::write(
         file,
-        expected,
         &mut states,
         &mut tables,
         &mut marks,
         &mut verdicts,
         &mut sheet,
     );
-    if is {
-        return Ok(true);
+    r.answer.number == 0 && &sheet[..r.bytes] == expected
+}
+
+// The same; if they are not, that is printed.
+fn compare_sheet(rt: &impl Print, path: &[u8], file: &[u8], expected: &[u8]) -> io::Result<bool>
+    ensures { IfOk result (λ is. is ≡ true → IsSheet file.now expected.now) }
+{
+    let is = is_sheet(file, expected);
+    if !is {
+        folders::print_about(rt, path, "other sheet")?;
     }
-    folders::print_about(rt, path, "other sheet")?;
-    Ok(false)
+    Ok(is)
 }
 
 fn main(rt: HostRuntime) -> io::Result<()> {

@@ -1,6 +1,6 @@
--- Bytes that stand in a listing at a place, and a listing that is the pieces one after the other. Assumes nothing.
-use Rattle.meaning.proofs.Prelude.{ℕ, ◌+◌, ◌≤◌, ◌-◌, ◌<◌, ◌≡◌, refl, sym, ap, ◌∙◌, subst, ◌≢◌, Bool, true, false, not, ◌&&◌, List, ◌++◌, T, leb}
-use Rattle.meaning.proofs.Prelude.{leb→le, eqb, length, take, drop, take_all, take-add, zero-add, arith, le-leb, lt-leb, eqb-true, eqb-false}
+-- A listing that is the pieces one after the other, or a refusal's. Assumes nothing.
+use Rattle.meaning.proofs.Prelude.{ℕ, ◌+◌, ◌≡◌, refl, sym, ap, ◌∙◌, subst, ◌≢◌, Bool, true, false, not, ◌&&◌, List, [], ◌++◌, T, eqb, take}
+use Rattle.meaning.proofs.Prelude.{append_assoc, append-nil, eqb-true, eqb-false}
 use Rattle.meaning.proofs.Definitions.{same, joined, table, Answer, accepted, and_then, refuse_if, file_answer, Buffers, long_enough, analysis_answer}
 use Rattle.meaning.proofs.Definitions.{analysed}
 use Rattle.meaning.proofs.Lists.{both, T_of, same-eq}
@@ -13,44 +13,27 @@ use Rattle.answers.specs.Answered.{answered}
 use Rattle.listing_answer.proofs.Texts.{text_is, answer-is, line_text}
 use Rattle.analysis.specs.Given.{given}
 use Rattle.analysis.specs.declared.Analysis.{Analysis}
-use Rattle.vectors.specs.Expected.{stands_at}
 
--- the tests of `stands_at`: too few bytes are left, or as many as there are to compare
-module _ (s : List ℕ) (from : ℕ) (bytes : List ℕ) where
-  pub stands_short : length s < from + length bytes → stands_at s from bytes ≡ false
-  stands_short h = ap (λ (b : Bool). b && same (take (length bytes) (drop from s)) bytes) (lt-leb (from + length bytes) (length s) h)
-
-  pub stands_long : from + length bytes ≤ length s → stands_at s from bytes ≡ same (take (from + length bytes - from) (drop from s)) bytes
-  stands_long h =
-      let e : length bytes ≡ from + length bytes - from = omega arith in
-      ap (λ (b : Bool). b && same (take (length bytes) (drop from s)) bytes) (le-leb (from + length bytes) (length s) h)
-      ∙ ap (λ (n : ℕ). same (take n (drop from s)) bytes) e
-
-  -- where they stand, the bytes up to their end are those before them, and they
-  pub stands_next : stands_at s from bytes ≡ true → (from + length bytes ≤ length s) × (take (from + length bytes) s ≡ take from s ++ bytes)
-  stands_next e =
-      let w = both (leb (from + length bytes) (length s)) (same (take (length bytes) (drop from s)) bytes) (T_of (stands_at s from bytes) e) in (
-        leb→le (from + length bytes) (length s) w.0,
-        take-add from (length bytes) s ∙ ap (λ (l : List ℕ). take from s ++ l) (same-eq (take (length bytes) (drop from s)) bytes w.1),
-      )
-
-module _ (file s : List ℕ) (from k : ℕ) (front : take from s ≡ joined (table k (piece file))) where
-  -- a piece that was put stands in the listing after the pieces before it
-  pub piece_stands : (out : List ℕ) {after : List ℕ} {n : ℕ}
+-- pieces of a listing `s` before number k, and what is left of it
+module _ (file s rest : List ℕ) (k : ℕ) (front : joined (table k (piece file)) ++ rest ≡ s) where
+  -- the next piece is put, and what is left begins with it
+  pub piece_stands : (out : List ℕ) {after : List ℕ} (later : List ℕ) {n : ℕ}
       → Put out 0 (piece file k) after n
-      → stands_at s from (take n after) ≡ true
-      → (from + n ≤ length s) × (take (from + n) s ≡ joined (table (k + 1) (piece file)))
-  piece_stands out {after} {n} put e =
-      let w = stands_next s from (piece file k) (ap (stands_at s from) (sym (text_is out (piece file k) put)) ∙ e) in (
-        omega (arith, w.0, put.1),
-        ap (λ (j : ℕ). take (from + j) s) (put.1 ∙ zero-add (length (piece file k))) ∙ w.1 ∙ ap (λ (l : List ℕ). l ++ piece file k) front ∙ sym (pieces-next file k),
-      )
+      → rest ≡ take n after ++ later
+      → joined (table (k + 1) (piece file)) ++ later ≡ s
+  piece_stands out {after} later {n} put stands =
+      ap (λ (l : List ℕ). l ++ later) (pieces-next file k)
+      ∙ append_assoc (joined (table k (piece file))) (piece file k) later
+      ∙ ap (λ (l : List ℕ). joined (table k (piece file)) ++ (l ++ later)) (sym (text_is out (piece file k) put))
+      ∙ ap (λ (l : List ℕ). joined (table k (piece file)) ++ l) (sym stands)
+      ∙ front
 
   -- all pieces, and nothing after them
-  pub pieces_all : file_answer file ≡ accepted → k ≡ pieces file → from ≡ length s → s ≡ listing file
+  pub pieces_all : file_answer file ≡ accepted → k ≡ pieces file → rest ≡ [] → s ≡ listing file
   pieces_all e all end =
-      sym (take_all from s (omega (arith, end)))
-      ∙ front
+      sym front
+      ∙ ap (λ (l : List ℕ). joined (table k (piece file)) ++ l) end
+      ∙ append-nil (joined (table k (piece file)))
       ∙ ap (λ (j : ℕ). joined (table j (piece file))) all
       ∙ listing-pieces file e
 

@@ -1,11 +1,8 @@
--- `listing_text::put_row` meets its contract. The invariant: the states from `i` on are left to be put. The measure is how many they are. Assumes nothing.
-use Rattle.meaning.proofs.Prelude.{◌≤◌, ◌-◌, length, drop}
+-- `listing_text::put_row` meets its contract. The invariant: the states from the next on are left to be put. Assumes nothing.
+use Rattle.meaning.proofs.Prelude.{drop}
 use Rattle.byte_runs.proofs.Putting.{Left}
 use Rattle.listing_text.specs.Lines.{row_text}
 use Rattle.listing_text.proofs.put_row.Given as goal
 
-abbrev pub invariant-loop-i : goal.invariant-loop-i
-invariant-loop-i l = (l.i ≤ length l.row) × Left l.initial.out l.at (row_text l.row) l.out l.next (row_text (drop l.i l.row))
-
-abbrev pub decreases-loop-i : goal.decreases-loop-i
-decreases-loop-i l = length l.row - l.i
+abbrev pub invariant-loop-state : goal.invariant-loop-state
+invariant-loop-state l = Left l.initial.out l.at (row_text l.row) l.out l.next (row_text (drop l.state-index l.row))

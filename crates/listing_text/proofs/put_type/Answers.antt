@@ -13,20 +13,20 @@ fits state t at name out e h = subst (λ (l : List ℕ). at + length l ≤ lengt
 
 pub put_byte-next-requires : goal.put_byte-next-requires
 put_byte-next-requires c = let a = c.args in
-    omega (arith, put_first a.out.now a.at (space ∷ []) a.name.now (fits a.state a.t a.at a.name.now a.out.now (sym c.has.ensures ∙ c.if-has.true) c.requires.1))
+    omega (arith, put_first a.out.now a.at (space ∷ []) a.name.now (fits a.state a.t a.at a.name.now a.out.now (sym c.has.ensures ∙ c.if-not-has.false) c.requires.1))
 
 pub put_bytes-requires : goal.put_bytes-requires
 put_bytes-requires c = let a = c.args in
-    put_room a.out.now a.at (space ∷ []) a.name.now (fits a.state a.t a.at a.name.now a.out.now (sym c.has.ensures ∙ c.if-has.true) c.requires.1) c.put_byte-next.ensures
-
-pub returns-then-has : goal.returns-then-has
-returns-then-has c = let a = c.args in
-    subst (λ (l : List _). Put a.out.now a.at l c.put_bytes.new.out c.put_bytes.result)
-    (sym (held_yes a.state a.t a.name.now (sym c.has.ensures ∙ c.if-has.true)))
-    (put_then a.out.now a.at (space ∷ []) a.name.now (fits a.state a.t a.at a.name.now a.out.now (sym c.has.ensures ∙ c.if-has.true) c.requires.1) c.put_byte-next.ensures c.put_bytes.ensures)
+    put_room a.out.now a.at (space ∷ []) a.name.now (fits a.state a.t a.at a.name.now a.out.now (sym c.has.ensures ∙ c.if-not-has.false) c.requires.1) c.put_byte-next.ensures
 
 pub returns : goal.returns
 returns c = let a = c.args in
+    subst (λ (l : List _). Put a.out.now a.at l c.put_bytes.new.out c.put_bytes.result)
+    (sym (held_yes a.state a.t a.name.now (sym c.has.ensures ∙ c.if-not-has.false)))
+    (put_then a.out.now a.at (space ∷ []) a.name.now (fits a.state a.t a.at a.name.now a.out.now (sym c.has.ensures ∙ c.if-not-has.false) c.requires.1) c.put_byte-next.ensures c.put_bytes.ensures)
+
+pub returns-then-not-has : goal.returns-then-not-has
+returns-then-not-has c = let a = c.args in
     subst (λ (l : List _). Put a.out.now a.at l a.out.now a.at)
-    (sym (held_no a.state a.t a.name.now (sym c.has.ensures ∙ c.if-has.false)))
+    (sym (held_no a.state a.t a.name.now (sym c.has.ensures ∙ c.if-not-has.true)))
     (put_none a.out.now a.at)

@@ -13,11 +13,11 @@ returns-then-verdict-eq0 c = let a = c.args in
     let p = c.put_bytes in
     subst (λ (l : List _). Put a.out.now a.at l p.new.out p.result) (sym (clear-is a.verdict c.if-verdict-eq0.true)) p.ensures
 
-pub put_bytes-requires-2 : goal.put_bytes-requires-2
-put_bytes-requires-2 c = let a = c.args in
+pub put_bytes-requires-else-verdict-eq0 : goal.put_bytes-requires-else-verdict-eq0
+put_bytes-requires-else-verdict-eq0 c = let a = c.args in
     subst (λ (l : List _). a.at + length l ≤ length a.out.now) (open_is a.verdict c.if-verdict-eq0.false) c.requires
 
-pub returns : goal.returns
-returns c = let a = c.args in
-    let p = c.put_bytes-2 in
+pub returns-else-verdict-eq0 : goal.returns-else-verdict-eq0
+returns-else-verdict-eq0 c = let a = c.args in
+    let p = c.put_bytes-else-verdict-eq0 in
     subst (λ (l : List _). Put a.out.now a.at l p.new.out p.result) (sym (open_is a.verdict c.if-verdict-eq0.false)) p.ensures
