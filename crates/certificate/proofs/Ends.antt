@@ -1,11 +1,11 @@
 -- How the writing of a sheet ends: refused with 1 to 8, with 9, with 14, or done. The atoms stand in the order of their cells. Assumes nothing.
-use Rattle.meaning.proofs.Prelude.{ℕ, ◌≤◌, ◌<◌, ◌≡◌, sym, ap, ◌∙◌, subst, ◌≢◌, not, List, perm_refl, T, eqb, eqb→eq, length, arith}
+use Rattle.meaning.proofs.Prelude.{ℕ, ◌≤◌, ◌<◌, ◌≡◌, sym, ap, ◌∙◌, subst, ◌≢◌, not, List, perm_refl, T, eqb, eqb→eq, length}
 use Rattle.meaning.specs.Refusals as meant
-use Rattle.meaning.proofs.Definitions.{file_answer, encode_sheet, states_of, rounds_of, atoms_of, written, holds, counted, Buffers, long_enough, Analysed}
+use Rattle.meaning.proofs.Definitions.{file_answer, encode_sheet, states_of, rounds_of, atoms_of, written, holds, counted, Buffers, Analysed}
 use Rattle.meaning.proofs.Definitions.{OrderOf, analysis_answer, analysed, writing_answer, written_in, WrittenInOrder}
 use Rattle.meaning.proofs.Lists.{cond_yes, cond_no, not_intro, not-not_intro}
 use Rattle.meaning.proofs.Answers.{then_first, then_next, if_yes, if_no}
-use Rattle.meaning.proofs.Calls.{analysis-zero, writing-refused}
+use Rattle.meaning.proofs.Calls.{writing-refused}
 use Rattle.std.specs.Prelude.{Ok, Err}
 use Rattle.answers.specs.declared.Refusal.{Refusal}
 use Rattle.answers.specs.declared.Refusal.TheVariants.{SheetBufferTooShort}

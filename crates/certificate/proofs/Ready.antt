@@ -1,6 +1,6 @@
 -- After an analysis without a refusal: what the sheet is put from, and that it gives the file's sheet. Assumes nothing.
 use Rattle.meaning.proofs.Prelude.{ℕ, ◌≤◌, ◌≡◌, sym, ap, ◌∙◌, subst, List, length, take, length-take-le}
-use Rattle.meaning.proofs.Definitions.{All, cells, states_of, model_of, atoms_of, written}
+use Rattle.meaning.proofs.Definitions.{All, cells, model_of, atoms_of, written}
 use Rattle.std.specs.Prelude.{Option}
 use Rattle.declarations.specs.declared.Known.{Known}
 use Rattle.declarations.specs.Tests.{known_predicates}

@@ -12,7 +12,7 @@ use analysis::Counts;
 use answers::Refusal;
 
 // What the analysis counts, and the bytes of the sheet.
-#[derive(Clone, Copy)]
+#[derive(Clone, Copy, Default)]
 pub struct Written {
     pub counts: Counts,
     pub bytes: usize,

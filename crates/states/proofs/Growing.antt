@@ -1,24 +1,18 @@
 -- Turns of determinisation: what one adds, when it comes to rest, and that the states found so far never get fewer. Assumes nothing.
-use Rattle.meaning.proofs.Prelude.{ℕ, ◌+◌, ◌≤◌, ◌<◌, zero, suc, ◌≡◌, refl, sym, ap, ◌∙◌, subst, ⊎_elim, Bool, true, false, not, List, [], ◌∷◌, map, T}
-use Rattle.meaning.proofs.Prelude.{length, get_or, drop, drop-cons, le_trans, le_of_lt, add-one, arith}
-use Rattle.meaning.proofs.Definitions.{same, joined, most_states, Sym, insert_rising, insert_all, reached, grow, saturate, determinise}
+use Rattle.meaning.proofs.Prelude.{ℕ, ◌+◌, ◌≤◌, ◌<◌, zero, suc, ◌≡◌, refl, sym, ap, ◌∙◌, subst, ⊎_elim, Bool, true, false, not, List, [], ◌∷◌, ◌++◌, map, T}
+use Rattle.meaning.proofs.Prelude.{length, le_trans, le_of_lt, arith}
+use Rattle.meaning.proofs.Definitions.{same, joined, most_states, Sym, insert_all, reached, grow, saturate, determinise}
 use Rattle.meaning.proofs.Lists.{clash, same-eq, eq-same}
 use Rattle.meaning.proofs.Rising.{insert_longer, insert_all_longer}
 
--- one more of the numbers put in
-pub insert_all-next : (ss l : List ℕ) (i : ℕ) → i < length ss → insert_all (drop i ss) l ≡ insert_rising (get_or ss i 0) (insert_all (drop (i + 1) ss) l)
-insert_all-next ss l i h = rw (drop-cons ss i 0 h, add-one i)
-
 -- more numbers put in are not fewer
-pub insert_all-drop : (ss l : List ℕ) (i : ℕ) → length (insert_all (drop i ss) l) ≤ length (insert_all ss l)
-insert_all-drop [] l zero = omega arith
-insert_all-drop [] l (suc i) = omega arith
-insert_all-drop (s ∷ ss) l zero = omega arith
-insert_all-drop (s ∷ ss) l (suc i) =
+pub insert_all-more : (before ss l : List ℕ) → length (insert_all ss l) ≤ length (insert_all (before ++ ss) l)
+insert_all-more [] ss l = omega arith
+insert_all-more (s ∷ before) ss l =
     ⊎_elim
-    (λ e. omega (arith, insert_all-drop ss l i, ap (λ (k : List ℕ). length k) e))
-    (λ e. omega (arith, insert_all-drop ss l i))
-    (insert_longer s (insert_all ss l))
+    (λ e. omega (arith, insert_all-more before ss l, ap (λ (k : List ℕ). length k) e))
+    (λ e. omega (arith, insert_all-more before ss l))
+    (insert_longer s (insert_all (before ++ ss) l))
 
 module _ (st : ℕ → List ℕ → ℕ) (symbols : List Sym) where
   -- a turn loses no set

@@ -1,5 +1,5 @@
 -- A number put into an array of at most 16 rising numbers, by its place; and several, from the last to the first. Assumes nothing.
-use Rattle.meaning.proofs.Prelude.{ℕ, ◌+◌, ◌≤◌, ◌-◌, ◌<◌, ◌≡◌, sym, ap, ◌∙◌, subst, ap₂, List, ◌∷◌, ◌++◌, length, get_or, take, drop, get_or-take, arith}
+use Rattle.meaning.proofs.Prelude.{ℕ, ◌+◌, ◌≤◌, ◌<◌, ◌≡◌, sym, ap, ◌∙◌, subst, ap₂, List, ◌∷◌, ◌++◌, length, get_or, take, drop, get_or-take, arith}
 use Rattle.meaning.proofs.Definitions.{most_states, insert_rising, insert_all}
 use Rattle.std.specs.Prelude.{Result, Ok, Err}
 use Rattle.states.specs.Packed.{place_for, put_at, padded_states, Holds, packed}
@@ -7,7 +7,7 @@ use Rattle.states.specs.declared.TooMany.{TooMany}
 use Rattle.states.specs.declared.States.{States}
 use Rattle.states.proofs.Places.{place-le, insert_same, insert_new-at}
 use Rattle.states.proofs.Packed.{length_held, length_put, padded_put, packed_known, packed_many, many_is, counted_sets}
-use Rattle.states.proofs.Growing.{insert_all-next, insert_all-drop}
+use Rattle.states.proofs.Growing.{insert_all-more}
 
 abbrev pub answer : ℕ → List ℕ → Result States TooMany
 answer n sets = Ok (record { count = n; sets = sets })
@@ -55,24 +55,21 @@ module _ {sets : List ℕ} {n : ℕ} (h : Holds sets n) (s i : ℕ) (at : i ≡ 
       (omega arith)
       (ap₂ (λ (k : List ℕ) (m : ℕ). put_at k i m s) h.padding (sym size) ∙ padded_put l i s (omega (arith, size)) (omega (arith, size, place-within)) ∙ ap padded_states (sym (new other)))
 
--- the numbers from place i on are put into those held at first
-module _ (new l : List ℕ) where
-  pub put_next-one :
-      (i : ℕ) {known : States} {r : Result States TooMany}
-      → 0 < i
-      → i ≤ length new
-      → Ok known ≡ packed (insert_all (drop i new) l)
-      → r ≡ packed (insert_rising (get_or new (i - 1) 0) (take known.count known.sets))
-      → r ≡ packed (insert_all (drop (i - 1) new) l)
-  put_next-one i {known} more within held is =
-      let back : i - 1 + 1 ≡ i = omega arith in
-      is
-      ∙ ap
-      (λ (k : List ℕ). packed (insert_rising (get_or new (i - 1) 0) k))
-      (counted_sets (insert_all (drop i new) l) held ∙ ap (λ (j : ℕ). insert_all (drop j new) l) (sym back))
-      ∙ ap packed (sym (insert_all-next new l (i - 1) (omega arith)))
+-- one number more put in before those that were passed, from the last on
+module _ (l : List ℕ) (s : ℕ) (passed : List ℕ) {known : States} (held : Ok known ≡ packed (insert_all passed l)) where
+  pub put_passed : {r : Result States TooMany} → r ≡ packed (insert_rising s (take known.count known.sets)) → r ≡ packed (insert_all (s ∷ passed) l)
+  put_passed is = is ∙ ap (λ (k : List ℕ). packed (insert_rising s k)) (counted_sets (insert_all passed l) held)
 
   -- once they are too many, they stay so
-  pub put_over : (i : ℕ) {many : TooMany} → Err many ≡ packed (insert_all (drop i new) l) → (end : TooMany) → Err end ≡ packed (insert_all new l)
-  put_over i over end =
-      sym (packed_many (insert_all new l) end (omega (arith, insert_all-drop new l i, many_is (insert_all (drop i new) l) over)))
+  pub put_over : (before : List ℕ) {new : List ℕ} {many : TooMany}
+      → new ≡ before ++ (s ∷ passed)
+      → Err many ≡ packed (insert_rising s (take known.count known.sets))
+      → (end : TooMany)
+      → Err end ≡ packed (insert_all new l)
+  put_over before {new} split is end =
+      sym (packed_many (insert_all new l) end (omega (
+        arith,
+        insert_all-more before (s ∷ passed) l,
+        ap (λ (k : List ℕ). length (insert_all k l)) split,
+        many_is (insert_all (s ∷ passed) l) (put_passed is),
+      )))

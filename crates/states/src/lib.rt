@@ -75,8 +75,8 @@ impl States {
         ensures { result ≡ packed (insert_all new.now (take self.count self.sets)) }
     {
         let mut known = self;
-        for i in (0..new.len()).rev() {
-            known = known.put(new[i])?;
+        for &set in new.iter().rev() {
+            known = known.put(set)?;
         }
         Ok(known)
     }

@@ -1,15 +1,9 @@
 -- The goals that are not found.
 use Rattle.meaning.proofs.Prelude.{ap, ◌∙◌, length, length-drop, get_or, drop, arith}
 use Rattle.meaning.proofs.Loops.{part-rest}
-use Rattle.automaton.proofs.Marking.{mark-end, to-zero, to-more, to_same, to_all, length-mark_to, end-inside, asked_low, deeper, next-inside}
+use Rattle.automaton.proofs.Marking.{mark-end, to-zero, to-more, to_same, to_all, length-mark_to, deeper, next-inside}
 use Rattle.automaton.proofs.+mark_rows.Goals as goal
 use Rattle.automaton.proofs.+mark_rows.Goals.{else-has, then-has}
-
-pub overflow_add-at : goal.overflow_add-at
-overflow_add-at t c = omega (arith, end-inside c.args.arguments.now c.requires c.in_default.len_below)
-
-pub bounds-sets-at : goal.bounds-sets-at
-bounds-sets-at t c = end-inside c.args.arguments.now c.requires c.in_default.len_below
 
 pub returns-in_default : goal.returns-in_default
 returns-in_default t c = let a = c.args in
@@ -17,9 +11,6 @@ returns-in_default t c = let a = c.args in
 
 pub loop-d-init : goal.loop-d-init
 loop-d-init t c = to-zero _ _ _ _ _ _ _
-
-pub has-requires : goal.has-requires
-has-requires t c = asked_low c.args.arguments.now c.requires c.in-len1-up.len_at_least
 
 pub overflow_mul-cell : goal.overflow_mul-cell
 overflow_mul-cell t c = let d = c.loop-d.d in
@@ -40,11 +31,6 @@ loop-d-preserved t c = let a = c.args in
     let asked = get_or a.arguments.now 0 0 in
     let rest = drop 1 a.arguments.now in
     elim c.if-has.branch [ then-has w ↦ w.sets-is ∙ ((rw (part-rest 1 a.arguments.now) at w.mark_rows.ensures) ∙ to-more a.states.now a.start a.more.bits asked rest a.cell a.sets.now loop.d c.has.ensures w.if-has.true loop.invariant) | else-has w ↦ w.sets-is ∙ to_same a.states.now a.start a.more.bits asked rest a.cell a.sets.now loop.d c.has.ensures w.if-has.false loop.invariant ]
-
-pub shape_of-sets : goal.shape_of-sets
-shape_of-sets t c = let a = c.args in
-    let loop = c.loop-d in
-    ap length loop.invariant ∙ length-mark_to a.states.now a.start a.more.bits (get_or a.arguments.now 0 0) (drop 1 a.arguments.now) a.cell a.sets.now loop.d
 
 pub returns : goal.returns
 returns t c = let a = c.args in

@@ -1,5 +1,4 @@
 -- `certificate::write` meets its contract. Assumes nothing.
-use Rattle.meaning.proofs.Prelude.{◌∙◌, ap}
 use Rattle.std.proofs.lemmas.Result.{err_from_is_err_and}
 use Rattle.meaning.specs.Calls.{Buffers}
 use Rattle.acceptance.proofs.Kept.{states-few, kept, refused-with}

@@ -1,5 +1,5 @@
 -- `certificate::write_accepted` meets its contract, with the atoms in the order of their cells. Assumes nothing.
-use Rattle.meaning.proofs.Prelude.{ℕ, List, ◌≡◌, refl, lit≤, arith}
+use Rattle.meaning.proofs.Prelude.{◌≡◌, refl, lit≤, arith}
 use Rattle.meaning.proofs.Definitions.{model_of, written, Buffers}
 use Rattle.std.proofs.lemmas.Result.{err_from_is_err_and}
 use Rattle.acceptance.proofs.Asked.{predicates-counted, preds-within}

@@ -17,12 +17,6 @@ cells_of-all-requires c = let pre = c.requires in
     let limited = pre.by_index.1.limited in
     (pre.states_len_bound.0, omega (arith, limited.symbols), small c.args.arities.now pre.by_index.0 limited)
 
-pub write_indices-requires : goal.write_indices-requires
-write_indices-requires c = let pre = c.requires in
-    let given = pre.by_index.1 in
-    let filled = filled_of c.args.states.now c.fill.ensures c.cells_of-all.ensures given in
-    (pre.states_len_bound.0, omega (arith, front_length filled, c.cells_of-all.ensures, pre.states_len_bound.1))
-
 pub returns : goal.returns
 returns c types given = let filled = filled_of c.args.states.now c.fill.ensures c.cells_of-all.ensures given in
     c.write_indices.ensures

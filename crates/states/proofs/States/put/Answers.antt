@@ -1,12 +1,8 @@
 -- `states::States::put` meets its contract: a number that stands at its place is there already, any other is put there if it finds room. Assumes nothing.
-use Rattle.meaning.proofs.Prelude.{◌+◌, ◌<◌, ◌≡◌, sym, ap, ◌∙◌, get_or, arith}
+use Rattle.meaning.proofs.Prelude.{◌+◌, ◌<◌, ◌≡◌, ap, ◌∙◌, get_or, arith}
 use Rattle.states.proofs.Putting.{answer, place-within, put_same, put_full, put_more}
-use Rattle.states.proofs.Packed.{length_held}
 use Rattle.states.proofs.States.put.Goals as goal
 use Rattle.states.proofs.States.put.Goals.{else-i-count-via-then-i-count+else-sets-i, else-i-count-via-else-i-count}
-
-pub slice_bounds-place-end : goal.slice_bounds-place-end
-slice_bounds-place-end c = sym (length_held c.requires)
 
 pub returns-then-sets-i : goal.returns-then-sets-i
 returns-then-sets-i c = let p = c.place-i in

@@ -8,9 +8,6 @@ use Rattle.states.proofs.Filling.{filled_of, small, fillable, front_fits, front_
 use Rattle.states.proofs.Packed.{length_held}
 use Rattle.states.proofs.States.turn.Goals as goal
 
-pub as_slice-requires : goal.as_slice-requires
-as_slice-requires c = c.requires.holds.few
-
 pub fill-requires : goal.fill-requires
 fill-requires c = let pre = c.requires in
     let given = pre.by_index.1 in
