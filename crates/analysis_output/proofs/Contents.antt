@@ -1,11 +1,18 @@
 -- Contents read one after the other, their values written to the front of a buffer. Assumes nothing.
-use Rattle.meaning.proofs.Prelude.{ℕ, ◌+◌, ◌≤◌, ◌-◌, ◌<◌, suc, ◌≡◌, sym, ap, ◌∙◌, ap₂, List, [], ◌∷◌, map, ◌++◌, length}
+use Rattle.meaning.proofs.Prelude.{ℕ, ◌+◌, ◌≤◌, ◌-◌, ◌<◌, suc, ◌≡◌, refl, sym, ap, ◌∙◌, ap₂, List, [], ◌∷◌, map, ◌++◌, length}
 use Rattle.meaning.proofs.Prelude.{length-map, get_or, drop, set, length-drop, drop-cons}
 use Rattle.meaning.proofs.Prelude.{add-one, arith}
 use Rattle.meaning.specs.Fields.{front_of}
+use Rattle.declarations.specs.declared.Known.{Known}
+use Rattle.declarations.specs.Tests.{earlier_in}
 use Rattle.fields.specs.Found.{content_in, next_in, contents_from}
 use Rattle.fields.proofs.Nth.{contents-step}
 use Rattle.byte_runs.proofs.Written.{front, front-next, front_all, get_or_mapped}
+
+-- the contents of the section of a kind
+pub section-is : (file : List ℕ) (known : Known) (tag : ℕ) {bytes : List ℕ} {from count : ℕ} → bytes ≡ file → from ≡ get_or known.starts tag 0 → count ≡ get_or known.counts tag 0
+    → contents_from count (drop from bytes) ≡ earlier_in file known tag
+section-is file known tag b f n = rw (b, f, n) refl
 
 -- With i of the contents read, the others stand from a position on, and their values are written.
 module _ (file : List ℕ) (count : ℕ) (contents : List (List ℕ)) (value : List ℕ → ℕ) (before : List ℕ) where

@@ -2,11 +2,10 @@
 use Rattle.meaning.proofs.Prelude.{ℕ, ◌+◌, ◌≤◌, ◌<◌, zero, suc, ◌^◌, ◌*◌, ◌≡◌, refl, sym, ap, ◌∙◌, subst, ⊎_elim, ◌⊎◌, inl, inr, cond, Bool, true}
 use Rattle.meaning.proofs.Prelude.{false, List, [], ◌∷◌, ◌++◌, T, length, length-append, get_or, drop, replicate, length-replicate, set, length-set}
 use Rattle.meaning.proofs.Prelude.{length-drop, drop-cons, get_or-set_same, get_or-set_other, set_out, drop-set-lt, not-suc-le-zero}
-use Rattle.meaning.proofs.Prelude.{le_of_suc-le-suc, lt-suc_self, le_step, eq-or-lt_of_le, zero-lt-suc, pow-zero, pow-succ', mul_assoc}
+use Rattle.meaning.proofs.Prelude.{le_of_suc-le-suc, lt-suc_self, le_step, eq-or-lt_of_le, pow-succ', mul_assoc}
 use Rattle.meaning.proofs.Prelude.{mul-le-mul_right, le-mul_of_pos_right, one-le-pow, add-mul, one-mul, add-one, dec_lt, ℕ_discrete, arith}
 use Rattle.meaning.proofs.Prelude.{take, ◌-◌}
 use Rattle.meaning.proofs.Loops.{part-rest}
-use Rattle.std.proofs.lemmas.List.{nil_from_length}
 use lib.Bits.{bit_or, or_lt}
 use Rattle.meaning.proofs.Definitions.{All, has, fits, sets_at}
 use Rattle.meaning.proofs.Bits.{has_either}
@@ -246,20 +245,11 @@ module _ (states : List ℕ) (base : ℕ) where
       ∙ ap (λ (n : ℕ). (cell + 1) * n) (sym (pow-succ' m k)) in
       record { asked = h.asked.1; room = omega (arith, h.room, row, all, e) }
 
--- with no argument left, and with one
+-- with an argument left
 module _ {states : List ℕ} {base cell : ℕ} {sets : List ℕ} (arguments : List ℕ) (h : Markable states base arguments cell sets) where
-  pub end-inside : length arguments < 1 → base + cell < length sets
-  end-inside none =
-      let nothing : arguments ≡ [] = nil_from_length arguments (omega arith) in
-      cell-inside states base [] cell sets (subst (λ (l : List ℕ). Markable states base l cell sets) nothing h)
-      (subst (λ (n : ℕ). 0 < n) (sym (pow-zero (length states))) (zero-lt-suc 0))
-
   module _ (some : 1 ≤ length arguments) where
     here : Markable states base (get_or arguments 0 0 ∷ drop 1 arguments) cell sets
     here = subst (λ (l : List ℕ). Markable states base l cell sets) (drop-cons arguments 0 0 some) h
-
-    pub asked_low : get_or arguments 0 0 < 16
-    asked_low = here.asked.0
 
     pub deeper : (d : ℕ) (l : List ℕ)
         → d < length states

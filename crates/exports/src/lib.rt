@@ -5,7 +5,26 @@
 
 ghost use Rattle.std.specs.Prelude.{◌≡◌};
 ghost use Rattle.meaning.specs.Calls.{analysed, checked, WrittenInOrder};
-ghost use Rattle.exports.specs.Numbers.{analysis, writing, check};
+ghost use Rattle.meaning.specs.Refusals.{refused};
+ghost use Rattle.exports.specs.Numbers.{analysis, writing, check, answer_of};
+
+use answers::Refusal;
+
+// The number of an answer, and its place through a reference: both 0 where nothing is refused.
+fn answer(refusal: Option<Refusal>, place: &mut usize) -> usize
+    ensures { refused result place.new ≡ answer_of refusal }
+{
+    match refusal {
+        Some(refusal) => {
+            *place = refusal.place();
+            refusal.number()
+        }
+        None => {
+            *place = 0;
+            0
+        }
+    }
+}
 
 // Analyses a rule file: its states, tables, model and verdicts.
 pub fn rules_analyse(
@@ -21,13 +40,12 @@ pub fn rules_analyse(
 ) -> usize
     ensures { analysis result place.new count.new atoms.new rounds.new (record { states = states.exit.now; tables = tables.new; marks = marks.new; verdicts = verdicts.new }) ≡ analysed file.now (record { states = states.entry.now; tables = tables.old; marks = marks.old; verdicts = verdicts.old }) }
 {
-    let found = analysis::analyse(file, states, tables, marks, verdicts);
-    let answer = found.answer;
-    *place = answer.place;
+    let result = analysis::analyse(file, states, tables, marks, verdicts);
+    let found = result.unwrap_or_default();
     *count = found.states;
     *atoms = found.atoms;
     *rounds = found.rounds;
-    answer.number
+    answer(result.err(), place)
 }
 
 // Analyses a rule file and writes its sheet.
@@ -46,14 +64,13 @@ pub fn rules_write(
 ) -> usize
     ensures { WrittenInOrder file.now (record { states = states.entry.now; tables = tables.old; marks = marks.old; verdicts = verdicts.old }) sheet.old (writing result place.new count.new atoms.new rounds.new bytes.new (record { states = states.exit.now; tables = tables.new; marks = marks.new; verdicts = verdicts.new }) sheet.new) }
 {
-    let made = certificate::write(file, states, tables, marks, verdicts, sheet);
-    let answer = made.answer;
-    *place = answer.place;
-    *count = made.states;
-    *atoms = made.atoms;
-    *rounds = made.rounds;
+    let result = certificate::write(file, states, tables, marks, verdicts, sheet);
+    let made = result.unwrap_or_default();
+    *count = made.counts.states;
+    *atoms = made.counts.atoms;
+    *rounds = made.counts.rounds;
     *bytes = made.bytes;
-    answer.number
+    answer(result.err(), place)
 }
 
 // Checks a sheet for a rule file.
@@ -66,7 +83,6 @@ pub fn rules_check(
 ) -> usize
     ensures { check result place.new (record { tables = tables.exit.now; marks = marks.new }) ≡ checked file.now sheet.now (record { tables = tables.entry.now; marks = marks.old }) }
 {
-    let checked = sheet_check::check(file, sheet, tables, marks);
-    *place = checked.place;
-    checked.number
+    let result = sheet_check::check(file, sheet, tables, marks);
+    answer(result.err(), place)
 }

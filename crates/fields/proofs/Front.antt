@@ -1,12 +1,9 @@
 -- What stands at a position of a list of bytes, by how many are left and what the two length bytes say. Assumes nothing.
 use Rattle.meaning.proofs.Prelude.{ℕ, ◌+◌, ◌≤◌, ◌-◌, ◌<◌, suc, ◌*◌, ◌≡◌, refl, ap, ◌∙◌, cond, List, [], ◌∷◌, leb, length, get_or, take, drop}
-use Rattle.meaning.proofs.Prelude.{length-drop, drop_of_length-le, length-take-le, drop-cons, add-one, add-two, add-three, arith, le-leb, lt-leb}
+use Rattle.meaning.proofs.Prelude.{length-drop, drop-cons, add-one, add-two, add-three, arith, lt-leb}
 use Rattle.meaning.specs.Fields.{short, front, front_of}
 use Rattle.fields.specs.Found.{found_in}
-use Rattle.fields.specs.declared.Found.TheVariants.{End, Cut, Whole}
-
-pub found-end : (s : List ℕ) (at : ℕ) → length s ≤ at → found_in (front_of (drop at s)) ≡ End
-found-end s at h = ap (λ (l : List ℕ). found_in (front_of l)) (drop_of_length-le s h)
+use Rattle.fields.specs.declared.Found.TheVariants.{Cut}
 
 -- one byte left, two bytes left
 pub found-cut : (s : List ℕ) (at : ℕ) → at < length s → length s - at < 3 → found_in (front_of (drop at s)) ≡ Cut
@@ -26,19 +23,10 @@ drop-three s at h =
     ∙ ap (λ (l : List ℕ). get_or s at 0 ∷ get_or s (suc at) 0 ∷ l) (drop-cons s (suc (suc at)) 0 (omega arith)))
 
 -- the length bytes against what is left
-fitting : (tag n : ℕ) (l : List ℕ) → n ≤ length l → found_in (cond (leb n (length l)) (front tag (take n l) (drop n l)) short) ≡ Whole tag n
-fitting tag n l h = rw (le-leb n (length l)) (ap (Whole tag) (length-take-le n l h))
-
 passing : (tag n : ℕ) (l : List ℕ) → length l < n → found_in (cond (leb n (length l)) (front tag (take n l) (drop n l)) short) ≡ Cut
 passing tag n l h = rw (lt-leb n (length l))
 
 module _ (s : List ℕ) (at : ℕ) (h : at + 3 ≤ length s) where
-  pub found-whole : get_or s (at + 1) 0 * 256 + get_or s (at + 2) 0 ≤ length s - at - 3
-      → found_in (front_of (drop at s)) ≡ Whole (get_or s at 0) (get_or s (at + 1) 0 * 256 + get_or s (at + 2) 0)
-  found-whole fits =
-      ap (λ (l : List ℕ). found_in (front_of l)) (drop-three s at h)
-      ∙ fitting (get_or s at 0) (get_or s (at + 1) 0 * 256 + get_or s (at + 2) 0) (drop (at + 3) s) (simp length-drop (omega arith))
-
   pub found-long : length s - at - 3 < get_or s (at + 1) 0 * 256 + get_or s (at + 2) 0 → found_in (front_of (drop at s)) ≡ Cut
   found-long long =
       ap (λ (l : List ℕ). found_in (front_of l)) (drop-three s at h)

@@ -1,17 +1,16 @@
 -- The content and the end of what stands at a position, and the content of field k from a position on. Assumes nothing.
-use Rattle.meaning.proofs.Prelude.{ℕ, ◌+◌, ◌≤◌, ◌-◌, ◌<◌, zero, suc, ◌≡◌, refl, sym, ap, ◌∙◌, subst, List, [], ◌∷◌, T, length, get_or, take, drop}
+use Rattle.meaning.proofs.Prelude.{ℕ, ◌+◌, ◌≤◌, ◌-◌, ◌<◌, zero, suc, ◌≡◌, refl, sym, ap, ◌∙◌, List, [], ◌∷◌, length, get_or, take, drop}
 use Rattle.meaning.proofs.Prelude.{add-one, arith}
 use Rattle.meaning.specs.Fields.{Front, empty, short, front, front_of}
-use Rattle.fields.specs.Found.{found_in, is_whole, content_in, next_in, on_content, contents_from, on_rest, nth_in}
+use Rattle.fields.specs.Found.{found_in, content_in, next_in, on_content, contents_from, on_rest, nth_in}
 use Rattle.fields.specs.declared.Found.{Found}
 use Rattle.fields.specs.declared.Found.TheVariants.{Whole}
 use Rattle.fields.proofs.Fronts.{front_rest, front-inside, front-content, found-whole}
 
--- a whole field that was found at a position: it lies inside the bytes, with its content and the next position
+-- a whole field that was found at a position: it lies inside the bytes, with its content
 pub record WholeAt (s : List ℕ) (at len : ℕ) : Type 0 where
   pub inside : at + 3 + len ≤ length s
   pub content : take len (drop (at + 3) s) ≡ content_in (front_of (drop at s))
-  pub next : at + 3 + len ≡ next_in at (front_of (drop at s))
 
 pub whole-at : (s : List ℕ) (at : ℕ) {tag len : ℕ} {f : Found} → f ≡ found_in (front_of (drop at s)) → f ≡ Whole tag len → WholeAt s at len
 whole-at s at {tag} {len} found is =
@@ -21,19 +20,7 @@ whole-at s at {tag} {len} found is =
     record {
       inside = omega arith;
       content = ap (λ (n : ℕ). take n (drop (at + 3) s)) (sym w.3) ∙ (front-content s at tag w.0 w.1 w.2 ∙ ap content_in (sym w.2));
-      next = subst (λ (f : Front). at + 3 + len ≡ next_in at f) (sym w.2) (omega arith);
     }
-
--- where no whole field stands there is no content, and the next position is the same
-pub record NoneAt (at : ℕ) (f : Front) : Type 0 where
-  pub content : [] ≡ content_in f
-  pub next : at ≡ next_in at f
-  pub none-whole : T (is_whole f) → ⊥
-
-pub none_at : (at : ℕ) (g : Front) {f : Found} → f ≡ found_in g → ((tag len : ℕ) → f ≡ Whole tag len → ⊥) → NoneAt at g
-none_at at empty found none = record { content = refl; next = refl; none-whole = λ w. w }
-none_at at short found none = record { content = refl; next = refl; none-whole = λ w. w }
-none_at at (front tag content rest) found none = absurd (none tag (length content) found)
 
 -- past the end or at a cut field there is no field more
 nth_short : (k : ℕ) (bytes : List ℕ) → front_of bytes ≡ short → nth_in k bytes ≡ []
@@ -53,14 +40,9 @@ nth_suc s at k = go (front_of (drop at s)) refl
     go short e = sym (nth_short k (drop at s) e)
     go (front tag content rest) e = ap (nth_in k) (front_rest s at tag content rest e)
 
--- a turn, and the last place
+-- a turn
 pub nth_next : (s : List ℕ) (at left later : ℕ) → left ≡ later + 1 → nth_in left (drop at s) ≡ nth_in later (drop (next_in at (front_of (drop at s))) s)
 nth_next s at left later e = ap (λ (n : ℕ). nth_in n (drop at s)) (e ∙ add-one later) ∙ nth_suc s at later
-
-pub nth_here : (bytes : List ℕ) (left : ℕ) → left ≤ 0 → nth_in left bytes ≡ content_in (front_of bytes)
-nth_here bytes left h =
-    let none_left : left ≡ 0 = omega arith in
-    ap (λ (n : ℕ). nth_in n bytes) none_left
 
 -- Field k of some bytes is the k-th of their first fields.
 pub nth_of_contents : (n k : ℕ) (bytes : List ℕ) → k < length (contents_from n bytes) → nth_in k bytes ≡ get_or (contents_from n bytes) k []

@@ -1,13 +1,16 @@
 -- The text at the start of a buffer: what it is, and that it ends inside. Assumes nothing.
-use Rattle.meaning.proofs.Prelude.{ℕ, ◌+◌, ◌≤◌, ◌≡◌, sym, ap, ◌∙◌, ap₂, ◌≢◌, cond, Bool, List, [], ◌++◌, length, length-append, take, drop}
+use Rattle.meaning.proofs.Prelude.{ℕ, ◌+◌, ◌≤◌, ◌≡◌, refl, sym, ap, ◌∙◌, ap₂, cond, Bool, List, [], ◌++◌, length, length-append, take, drop}
 use Rattle.meaning.proofs.Prelude.{arith, ne_eqb}
-use Rattle.meaning.proofs.Definitions.{Answer, ok, Buffers, Analysed, analysis_answer, analysed}
+use Rattle.meaning.proofs.Definitions.{accepted, Buffers, Analysed, analysis_answer, analysed}
 use Rattle.byte_runs.specs.Pasted.{pasted, Put}
 use Rattle.byte_runs.proofs.Pasted.{pasted-nil, take-pasted}
 use Rattle.listing_text.specs.Lines.{refused_line, refusal_text}
-use Rattle.answers.specs.Answered.{answered}
+use Rattle.std.specs.Prelude.{Result}
+use Rattle.answers.specs.declared.Refusal.{Refusal}
+use Rattle.answers.specs.Refused.{answered, refusal_answer}
+use Rattle.acceptance.proofs.Answering.{refusal_number}
 use Rattle.analysis.specs.Given.{given}
-use Rattle.analysis.specs.declared.Analysis.{Analysis}
+use Rattle.analysis.specs.declared.Counts.{Counts}
 
 module _ (out bytes : List ℕ) {after : List ℕ} {n : ℕ} (put : Put out 0 bytes after n) where
   pub text_is : take n after ≡ bytes
@@ -20,18 +23,18 @@ module _ (out bytes : List ℕ) {after : List ℕ} {n : ℕ} (put : Put out 0 by
       omega (arith, put.1, whole, length-append bytes (drop (0 + length bytes) out))
 
 -- the answer of an analysis
-pub answer-is : (file : List ℕ) (before after : Buffers) (r : Analysis) → given r after ≡ analysed file before → answered r.answer ≡ analysis_answer file before
+pub answer-is : (file : List ℕ) (before after : Buffers) (r : Result Counts Refusal) → given r after ≡ analysed file before → answered r ≡ analysis_answer file before
 unfolding analysed
 answer-is file before after r is = ap (λ (a : Analysed). a.answer) is
 
--- the text of an answer without a refusal, and of one with it
-pub no_text : (a : Answer) → a.number ≡ 0 → refusal_text a ≡ []
+-- the text without a refusal, and with one
+pub no_text : refusal_text accepted ≡ []
 unfolding refusal_text
-no_text a z = ap (λ (n : ℕ). cond (ok (record { number = n; place = a.place })) [] (refused_line a)) z
+no_text = refl
 
-pub line_text : (a : Answer) → a.number ≢ 0 → refusal_text a ≡ refused_line a
+pub line_text : (r : Refusal) → refusal_text (refusal_answer r) ≡ refused_line (refusal_answer r)
 unfolding refusal_text
-line_text a h = ap (λ (b : Bool). cond b [] (refused_line a)) (ne_eqb a.number 0 h)
+line_text r = ap (λ (b : Bool). cond b [] (refused_line (refusal_answer r))) (ne_eqb (refusal_answer r).number 0 (refusal_number r))
 
 -- nothing put
 pub put_nothing : (out bytes : List ℕ) → bytes ≡ [] → Put out 0 bytes out 0

@@ -13,8 +13,6 @@ use Rattle.meaning.proofs.Certificates.{check-misplaced, check-differ, check_wro
 use Rattle.meaning.proofs.MarkedAtoms.{marked-atoms-exact}
 use Rattle.declarations.specs.declared.Known.{Known}
 use Rattle.declarations.specs.Tests.{earlier_in}
-use Rattle.answers.specs.declared.Answer.{Answer}
-use Rattle.answers.specs.Answered.{answered}
 use Rattle.parser.proofs.Limits.{predicates_known}
 use Rattle.evaluation.specs.Search.{clauses_in}
 use Rattle.acceptance.specs.Handed.{Handed}
@@ -128,7 +126,7 @@ atoms-same m interpret xs ys h [] i = refl
 atoms-same m interpret xs ys h (c ∷ clauses) zero = λ j. any_below (m ^ c.variables) (λ n. all_of (instance_in interpret (row_of m c.variables n) (λ p row. h p row j)) c.body && not (instance_in interpret (row_of m c.variables n) (λ p row. h p row j) c.head))
 atoms-same m interpret xs ys h (c ∷ clauses) (suc i) = atoms-same m interpret xs ys h clauses i
 
-module _ {file : List ℕ} {known : Known} {found symbols preds starts segments tables : List ℕ} (h : Handed file known symbols preds (length found) starts segments tables) (is : found ≡ states_of file) (sheet : List ℕ) where
+module _ {file : List ℕ} {known : Known} {symbols preds : List ℕ} {m : ℕ} {starts segments tables : List ℕ} (h : Handed file known symbols preds m starts segments tables) {found : List ℕ} (is : found ≡ states_of file) (sheet : List ℕ) where
   preds_are_lem : preds ≡ predicate_arities file
   preds_are_lem = h.preds_are ∙ predicates_known file h.answer known h.knows
 
@@ -143,11 +141,11 @@ module _ {file : List ℕ} {known : Known} {found symbols preds starts segments 
   eleven_at = lowest (max (length (states_in (fields sheet))) (length found)) (differ (states_in (fields sheet)) found)
 
   abbrev pub twelve_at : Option ℕ
-  twelve_at = first_field (wrong_atom (length found)) (fields sheet)
+  twelve_at = first_field (wrong_atom m) (fields sheet)
 
   abbrev pub thirteen_at : List ℕ → Option ℕ
   thirteen_at marks =
-      lowest (length (clauses_in symbols preds (earlier_in file known 5))) (violated_at (length found) (look_up (length found) symbols tables) (marked_atoms (length found) preds marks) (clauses_in symbols preds (earlier_in file known 5)))
+      lowest (length (clauses_in symbols preds (earlier_in file known 5))) (violated_at m (look_up m symbols tables) (marked_atoms m preds marks) (clauses_in symbols preds (earlier_in file known 5)))
 
   ten_is : ten_at ≡ first_field (misplaced (predicate_arities file)) (fields sheet)
   ten_is = ap (λ (ps : List ℕ). first_field (misplaced ps) (fields sheet)) preds_are_lem
@@ -156,45 +154,42 @@ module _ {file : List ℕ} {known : Known} {found symbols preds starts segments 
   eleven_is = ap (λ (l : List ℕ). lowest (max (length (states_in (fields sheet))) (length l)) (differ (states_in (fields sheet)) l)) is
 
   twelve_is : twelve_at ≡ first_field (wrong_atom (length (states_of file))) (fields sheet)
-  twelve_is = ap (λ (l : List ℕ). first_field (wrong_atom (length l)) (fields sheet)) is
+  twelve_is = ap (λ (n : ℕ). first_field (wrong_atom n) (fields sheet)) h.count
 
   thirteen_is : (marks : List ℕ)
       → ten_at ≡ none
       → twelve_at ≡ none
-      → Holding (length found) preds (contents_of atom_tag (fields sheet)) marks
+      → Holding m preds (contents_of atom_tag (fields sheet)) marks
       → thirteen_at marks ≡ lowest (length (rules_of file).clauses) (violated_at (length (states_of file)) (interpretation_of file) (contents_of atom_tag (fields sheet)) (rules_of file).clauses)
   thirteen_is marks none10 none12 holding =
-      handed_violations h (marked_atoms (length found) preds marks)
+      handed_violations h (marked_atoms m preds marks)
       ∙ lowest_ext (length (rules_of file).clauses) _ _ (λ i lt.
-      atoms-same (length (states_of file)) (interpretation_of file) (marked_atoms (length found) preds marks) (contents_of atom_tag (fields sheet)) (marked-same (length found) preds sheet marks none10 none12 holding) (rules_of file).clauses i)
+      atoms-same (length (states_of file)) (interpretation_of file) (marked_atoms m preds marks) (contents_of atom_tag (fields sheet)) (marked-same m preds sheet marks none10 none12 holding) (rules_of file).clauses i)
 
   -- how it ends
-  pub ends_ten : {k : ℕ} {a : Answer} → ten_at ≡ some k → answered a ≡ meant.refused 10 k → answered a ≡ own
-  ends_ten {k} e r = r ∙ sym ((check-misplaced (states_of file) (interpretation_of file) (predicate_arities file) (rules_of file).clauses sheet k).1 (sym ten_is ∙ e))
+  pub ends_ten : {k : ℕ} → ten_at ≡ some k → meant.refused 10 k ≡ own
+  ends_ten {k} e = sym ((check-misplaced (states_of file) (interpretation_of file) (predicate_arities file) (rules_of file).clauses sheet k).1 (sym ten_is ∙ e))
 
   module _ (none10 : ten_at ≡ none) where
-    pub ends_eleven : {k : ℕ} {a : Answer} → eleven_at ≡ some k → answered a ≡ meant.refused 11 k → answered a ≡ own
-    ends_eleven {k} e r = r ∙ sym ((check-differ (states_of file) (interpretation_of file) (predicate_arities file) (rules_of file).clauses sheet k).1 (sym ten_is ∙ none10, sym eleven_is ∙ e))
+    pub ends_eleven : {k : ℕ} → eleven_at ≡ some k → meant.refused 11 k ≡ own
+    ends_eleven {k} e = sym ((check-differ (states_of file) (interpretation_of file) (predicate_arities file) (rules_of file).clauses sheet k).1 (sym ten_is ∙ none10, sym eleven_is ∙ e))
 
     module _ (none11 : eleven_at ≡ none) where
-      pub ends_twelve : {k : ℕ} {a : Answer} → twelve_at ≡ some k → answered a ≡ meant.refused 12 k → answered a ≡ own
-      ends_twelve {k} e r =
-          r
-          ∙ sym ((check_wrong (states_of file) (interpretation_of file) (predicate_arities file) (rules_of file).clauses sheet k).1 (sym ten_is ∙ none10, (sym eleven_is ∙ none11, sym twelve_is ∙ e)))
+      pub ends_twelve : {k : ℕ} → twelve_at ≡ some k → meant.refused 12 k ≡ own
+      ends_twelve {k} e =
+          sym ((check_wrong (states_of file) (interpretation_of file) (predicate_arities file) (rules_of file).clauses sheet k).1 (sym ten_is ∙ none10, (sym eleven_is ∙ none11, sym twelve_is ∙ e)))
 
-      module _ (none12 : twelve_at ≡ none) {marks : List ℕ} (holding : Holding (length found) preds (contents_of atom_tag (fields sheet)) marks) where
-        pub ends_thirteen : {k : ℕ} {a : Answer} → thirteen_at marks ≡ some k → answered a ≡ meant.refused 13 k → answered a ≡ own
-        ends_thirteen {k} e r =
-            r
-            ∙ sym ((check-violated (states_of file) (interpretation_of file) (predicate_arities file) (rules_of file).clauses sheet k).1 (
+      module _ (none12 : twelve_at ≡ none) {marks : List ℕ} (holding : Holding m preds (contents_of atom_tag (fields sheet)) marks) where
+        pub ends_thirteen : {k : ℕ} → thirteen_at marks ≡ some k → meant.refused 13 k ≡ own
+        ends_thirteen {k} e =
+            sym ((check-violated (states_of file) (interpretation_of file) (predicate_arities file) (rules_of file).clauses sheet k).1 (
               sym ten_is ∙ none10,
               (sym eleven_is ∙ none11, (sym twelve_is ∙ none12, sym (thirteen_is marks none10 none12 holding) ∙ e)),
             ))
 
-        pub ends_passed : {a : Answer} → thirteen_at marks ≡ none → answered a ≡ meant.accepted → answered a ≡ own
-        ends_passed e r =
-            r
-            ∙ sym ((check-accepted (states_of file) (interpretation_of file) (predicate_arities file) (rules_of file).clauses sheet).1 (
+        pub ends_passed : thirteen_at marks ≡ none → meant.accepted ≡ own
+        ends_passed e =
+            sym ((check-accepted (states_of file) (interpretation_of file) (predicate_arities file) (rules_of file).clauses sheet).1 (
               sym ten_is ∙ none10,
               (sym eleven_is ∙ none11, (sym twelve_is ∙ none12, sym (thirteen_is marks none10 none12 holding) ∙ e)),
             ))

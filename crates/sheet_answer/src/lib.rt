@@ -1,4 +1,4 @@
-// The answer to a sheet from the four searches: 0, or 10 to 13, each at the lowest place that it fits.
+// The answer to a sheet from the four searches: none, or 10 to 13, each at the lowest place that it fits.
 
 #![tactic(auto)]
 
@@ -7,62 +7,40 @@ ghost use Rattle.meaning.specs.Cells.{cells};
 ghost use Rattle.meaning.specs.Certificates.{answer_of_sheet};
 ghost use Rattle.meaning.specs.Files.{rules_of};
 ghost use Rattle.meaning.specs.Calls.{predicate_arities, states_of, interpretation_of};
-ghost use Rattle.answers.specs.Answered.{answered};
-ghost use Rattle.acceptance.specs.Handed.{Handed};
+ghost use Rattle.answers.specs.Refused.{answered};
+ghost use Rattle.acceptance.specs.Handed.{IsHanded};
 
-use answers::Answer;
-use declarations::Known;
-use evaluation::{Automaton, Predicates};
-use fields::Section;
+use acceptance::HandedFile;
+use answers::Refusal;
+use declarations::Kind;
 
 // The answer to a sheet. The marks are zero at first, and of no use afterwards.
-pub fn judge_sheet(
-    sheet: &[u8],
-    file: &[u8],
-    known: Known,
-    found: &[u16],
-    symbols: &[u8],
-    preds: &[u8],
-    starts: &[u32],
-    segments: &[u32],
-    tables: &[u8],
-    marks: &mut [u8],
-) -> Answer
-    requires { Handed file.now known symbols.now preds.now (length found.now) starts.now segments.now tables.now × (found.now ≡ states_of file.now) × (marks.old ≡ replicate (cells (length found.now) preds.now) 0) }
-    ensures answer { answered result ≡ answer_of_sheet (states_of file.now) (interpretation_of file.now) (predicate_arities file.now) (rules_of file.now).clauses sheet.now }
+pub fn judge_sheet(sheet: &[u8], handed: &HandedFile, marks: &mut [u8]) -> Result<(), Refusal>
+    requires { IsHanded handed.now × (marks.old ≡ replicate (cells handed.now.automaton.m handed.now.predicates.arities.now) 0) }
+    ensures answer { answered result ≡ answer_of_sheet (states_of handed.now.accepted.file.now) (interpretation_of handed.now.accepted.file.now) (predicate_arities handed.now.accepted.file.now) (rules_of handed.now.accepted.file.now).clauses sheet.now }
     ensures size { length marks.new ≡ length marks.old }
 {
-    let m = found.len();
-    if let Some(k) = sheet_layout::first_misplaced(sheet, preds) {
-        return answers::refusal(meaning::SHEET_MISPLACED, k);
+    let accepted = &handed.accepted;
+    let automaton = &handed.automaton;
+    let predicates = &handed.predicates;
+    if let Some(k) = sheet_layout::first_misplaced(sheet, predicates.arities) {
+        return Err(Refusal::SheetMisplaced(k));
     }
-    if let Some(i) = sheet_layout::first_difference(sheet, found) {
-        return answers::refusal(meaning::SHEET_STATES_DIFFER, i);
+    if let Some(i) = sheet_layout::first_difference(sheet, accepted.states) {
+        return Err(Refusal::SheetStatesDiffer(i));
     }
-    if let Some(k) = sheet_atoms::mark_atoms(sheet, marks, preds, segments, m) {
-        return answers::refusal(meaning::SHEET_WRONG_ATOM, k);
-    }
-    let counts = known.counts;
-    let begins = known.starts;
-    match sheet_closure::first_violation(
-        &Section {
-            bytes: file,
-            from: begins[declarations::CLAUSES],
-            count: counts[declarations::CLAUSES],
-        },
-        &Automaton {
-            arities: symbols,
-            starts,
-            tables,
-            m,
-        },
-        &Predicates {
-            arities: preds,
-            segments,
-        },
+    if let Some(k) = sheet_atoms::mark_atoms(
+        sheet,
         marks,
+        predicates.arities,
+        predicates.segments,
+        automaton.m,
     ) {
-        Some(c) => answers::refusal(meaning::SHEET_NOT_CLOSED, c),
-        None => answers::no_refusal(),
+        return Err(Refusal::SheetWrongAtom(k));
     }
+    let clauses = accepted.known.section(accepted.file, Kind::Clause);
+    if let Some(c) = sheet_closure::first_violation(&clauses, automaton, predicates, marks) {
+        return Err(Refusal::SheetNotClosed(c));
+    }
+    Ok(())
 }

@@ -112,9 +112,6 @@ is_many {r = Err e} many h = refl
 
 -- the first numbers of the array are those of the list
 module _ (l : List ℕ) {s : States} (e : Ok s ≡ packed l) where
-  pub count-is : s.count ≡ length l
-  count-is = (known_is l e).0
-
   pub count_fits : s.count ≤ most_states
   count_fits = let w = known_is l e in omega (arith, w.0, w.1)
 

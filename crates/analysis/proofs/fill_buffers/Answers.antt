@@ -20,8 +20,10 @@ write_file_tables-requires c = (c.requires.file_value, c.requires.file_in_bounds
 
 pub write_results-counted-requires : goal.write_results-counted-requires
 write_results-counted-requires c = let h = c.requires.file_value in (
-  handed h c.args.tables.now c.symbols-symbols.ensures c.predicates-preds.ensures c.starts_of-starts.ensures c.starts_of-segments.ensures c.write_file_tables.ensures,
-  h.states_are,
+  record {
+    handed = handed h c.args.tables.now c.symbols-symbols.ensures c.predicates-preds.ensures c.starts_of-starts.ensures c.starts_of-segments.ensures c.write_file_tables.ensures;
+    states_are = h.states_are;
+  },
   c.requires.file_in_bounds.2,
   c.requires.file_in_bounds.3,
 )

@@ -4,9 +4,6 @@ use Rattle.automaton.proofs.Turns.{never_none, field_inside, first-long, first-w
 use Rattle.automaton.proofs.Given.{still_fillable, filled}
 use Rattle.automaton.proofs.fill.Goals as goal
 
-pub cells_of-all-requires : goal.cells_of-all-requires
-cells_of-all-requires c = let p = c.requires.fillable in (p.few, p.symbols, p.small)
-
 pub returns-in_default : goal.returns-in_default
 returns-in_default c = let loop = c.loop in
     absurd (never_none c.args.section.now.bytes.now loop.at (c.args.section.now.count - (loop.counter + 1)) (omega arith) loop.invariant.left.2 c.field_at.ensures c.in_default.not-Whole)
