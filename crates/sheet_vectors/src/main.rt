@@ -39,9 +39,7 @@ fn is_checked(file: &[u8], expected: &[u8]) -> bool {
         Ok(()) => (0, 0),
         Err(refusal) => (refusal.number(), refusal.place()),
     };
-    answer == usize::from(*number)
-        && at == usize::from(place)
-        && tables.starts_with(cells)
+    answer == usize::from(*number) && at == usize::from(place) && tables.starts_with(cells)
 }
 
 // The same; if it is not, that is printed.
