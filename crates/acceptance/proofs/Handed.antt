@@ -16,7 +16,7 @@ use Rattle.declarations.specs.Known.{Knows, fields_read}
 use Rattle.declarations.specs.Tests.{known_types, known_symbols, known_predicates, earlier_in}
 use Rattle.declarations.proofs.Knowing.{count_of, known_types_lem, known_symbols_lem, known_predicates_lem}
 use Rattle.parser.proofs.Whole.{well, knows_all, earlier, reads}
-use Rattle.parser.proofs.Limits.{accepted-read, accepted-few, predicates-few, predicates-small, states-some, predicates_known, predicates-count, predicates-length}
+use Rattle.parser.proofs.Limits.{accepted-read, accepted-few, predicates-few, predicates-small, states-some, predicates_known}
 use Rattle.acceptance.proofs.Ready.{limited}
 use Rattle.evaluation.proofs.Definitions.{Setting, clause_of, clauses_in, Readable, no_atom, query_of, Short, Modelling}
 use Rattle.evaluation.proofs.Tables.{look_up-tables, range_states}
@@ -67,15 +67,12 @@ module _ (file : List ℕ) (known : Known) (e : file_answer file ≡ accepted) (
   pub narrow-symbols : All (λ n. n ≤ 4) (known_symbols known)
   narrow-symbols = All-map (known_symbols known) (λ n le. le_trans le (lit≤ tt)) binary-symbols
 
-  -- the predicates are few and narrow, and stand in their array
+  -- the predicates are few and narrow
   pub few-predicates : length (known_predicates known) ≤ 16
   few-predicates = subst (λ (ps : List ℕ). length ps ≤ 16) (sym preds_are_lem) (predicates-few file e)
 
   pub narrow-predicates : All (λ n. n ≤ 3) (known_predicates known)
   narrow-predicates = subst (All (λ n. n ≤ 3)) (sym preds_are_lem) (predicates-small file e)
-
-  pub predicates_fit : get_or known.counts 4 0 ≤ length known.predicates
-  predicates_fit = omega (arith, predicates-count file e known knows, predicates-few file e, predicates-length file e known knows)
 
   pub fit_predicates : All (λ n. n ≤ 4) (known_predicates known)
   fit_predicates = All-map (known_predicates known) (λ n le. le_trans le (lit≤ tt)) narrow-predicates
@@ -250,4 +247,3 @@ module _ (file : List ℕ) (known : Known) (e : file_answer file ≡ accepted) (
   verdicts_needed =
       ap length (sym (verdicts_are_lem []))
       ∙ (length-map (earlier_in file known 6) (verdict_in (known_types known) m (states_of file) (known_symbols known) (written (tables_of file) []) (known_predicates known) (model_of file)) ∙ queries-counted)
-  -- the arities of the predicates stand in their array

@@ -1,5 +1,5 @@
 -- What is handed on, by the names that the code has for it. Assumes nothing.
-use Rattle.meaning.proofs.Prelude.{ℕ, ◌≤◌, ◌*◌, ◌≡◌, sym, ap, ◌∙◌, subst, ap₂, List, map, lit≤, length, get_or, take, replicate, le_trans}
+use Rattle.meaning.proofs.Prelude.{ℕ, ◌≤◌, ◌*◌, ◌≡◌, sym, ap, ◌∙◌, subst, ap₂, List, map, lit≤, length, get_or, take, le_trans}
 use Rattle.meaning.proofs.Definitions.{All, lowest, cells, model, rounds, marked_atoms, violated_at, rules_of, states_of, interpretation_of, tables_of}
 use Rattle.meaning.proofs.Definitions.{rounds_of, model_of, atoms_of, verdicts_of, written, query, look_up}
 use Rattle.meaning.proofs.Lists.{All-map}
@@ -8,10 +8,10 @@ use Rattle.declarations.specs.declared.Known.{Known}
 use Rattle.declarations.specs.Tests.{known_types, known_symbols, known_predicates, earlier_in}
 use Rattle.parser.proofs.Limits.{accepted-read, accepted-few}
 use Rattle.acceptance.proofs.Ready.{limited}
-use Rattle.evaluation.proofs.Definitions.{stage_masks, both_masks, code_size, plan_size, AllShown, clauses_in, Short, PresentOnly, Modelling, Asking}
-use Rattle.evaluation.proofs.Empty.{room, zeros}
+use Rattle.evaluation.proofs.Definitions.{both_masks, AllShown, clauses_in, Short, PresentOnly, Modelling, Asking}
+use Rattle.evaluation.proofs.Empty.{room}
 use Rattle.cells.specs.Starts.{Starts}
-use Rattle.acceptance.specs.Handed.{Handed, EngineBuffers, Queries, verdict_in}
+use Rattle.acceptance.specs.Handed.{Handed, Queries, verdict_in}
 use Rattle.byte_runs.proofs.Written.{holds-room, holds-first}
 use Rattle.acceptance.proofs.Handed as laws
 
@@ -139,18 +139,3 @@ module _ {file : List ℕ} {known : Known} {symbols preds : List ℕ} {m : ℕ} 
 
     pub marks_are_lem : take n marks ≡ model_of file
     marks_are_lem = holds-first (model_of file) marks is (sym size_is)
-
--- empty buffers with room for `clauses` clauses and `most` predicates
-pub lent_empty : (known : Known) (preds : List ℕ) (clauses most codes plans masks heads : ℕ)
-    → get_or known.counts 5 0 ≤ clauses
-    → length preds ≤ most
-    → (clauses * code_size ≤ codes) × (clauses * plan_size ≤ plans) × (most * both_masks ≤ masks) × (most * stage_masks ≤ heads)
-    → EngineBuffers known preds (replicate codes 0) (replicate plans 0) (replicate masks 0) (replicate heads 0)
-lent_empty known preds clauses most codes plans masks heads few short fits =
-    record {
-      coded = room (get_or known.counts 5 0) clauses code_size codes few fits.0;
-      planned = room (get_or known.counts 5 0) clauses plan_size plans few fits.1;
-      masked = room (length preds) most both_masks masks short fits.2;
-      noted = room (length preds) most stage_masks heads short fits.3;
-      empty = zeros heads;
-    }

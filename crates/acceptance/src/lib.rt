@@ -16,7 +16,7 @@ use evaluation::{Automaton, Predicates};
 use parser::Reading;
 use states::{States, TooMany};
 
-// What was read of a file, and its states, or why it is refused.
+// What was read of a file, and its states, or why it is refused. What was read stands outside of the Result: `accept` promises it of a refused file too.
 #[derive(Clone, Copy)]
 pub struct Acceptance {
     pub known: Known,

@@ -58,7 +58,8 @@ pub fn content(s: &[u8], at: usize, len: usize) -> &[u8]
     &s[from..to]
 }
 
-// The content of the field at a position, as that very part of the slice; an empty part where no whole field stands.
+// The content of the field at a position, as that very part of the slice; an empty part where no whole field stands. No Option here, at `next_at` and at
+// `nth_content`: their clauses promise these answers where no whole field stands, and callers that know of one would match an Option for nothing.
 pub fn content_at(s: &[u8], at: usize) -> &[u8]
     ensures result_value { result.now ≡ content_in (front_of (drop at s.now)) }
     ensures ref_ptr_value { T (is_whole (front_of (drop at s.now))) → (result.ref_ptr.0 ≡ s.entry.ref_ptr.0) × (result.ref_ptr.1 ≡ at + 3 + s.entry.ref_ptr.1) }

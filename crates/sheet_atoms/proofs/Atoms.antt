@@ -50,13 +50,6 @@ module _ (m : ℕ) (preds segments content marks : List ℕ)
   pub states_below : {b : Bool} → b ≡ all_of (λ d. ltb d m) (row_in content) → b ≡ true → All (λ d. d < m) (row_in content)
   states_below e t = all_below m (row_in content) (sym e ∙ t)
 
-  -- a state that is not below m
-  pub state_past : {b : Bool} → b ≡ all_of (λ d. ltb d m) (row_in content) → b ≡ false → false ≡ is_free m preds marks content
-  state_past e f =
-      ap
-      (λ (b : Bool). b && eqb (get_or marks (place m preds (get_or content 0 0) (drop 1 content)) 0) 0)
-      (sym f ∙ (e ∙ ap (all_of (λ d. ltb d m)) (part-rest 1 content)))
-
   -- its predicate's part of the marks, and its cell there
   module _ {p first size : ℕ} (is : p ≡ get_or content 0 0) (starts : first ≡ get_or segments p 0) (power : size ≡ m ^ get_or preds p 0) where
     first-is : first ≡ start m preds p

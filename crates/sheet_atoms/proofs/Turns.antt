@@ -1,7 +1,7 @@
 -- The walk over the fields of a sheet of which none is misplaced: what holds after some fields, and what each turn brings. Assumes nothing.
 use Rattle.meaning.proofs.Prelude.{ℕ, ◌+◌, ◌≤◌, ◌<◌, zero-le, ◌≡◌, refl, sym, ap, ◌∙◌, subst, subst₂, ap₂, ◌≢◌, cond, Bool, true, false, not, ◌&&◌}
 use Rattle.meaning.proofs.Prelude.{◌||◌, Option, none, some, some-ne-none, List, [], ◌∷◌, ◌++◌, append-nil, ltb, T, eqb, length, length-append}
-use Rattle.meaning.proofs.Prelude.{get_or, drop, replicate, length-replicate, set, length-drop, drop_of_length-le, append_snoc, arith, ne_eqb}
+use Rattle.meaning.proofs.Prelude.{get_or, drop, replicate, set, length-drop, drop_of_length-le, append_snoc, arith, ne_eqb}
 use Rattle.meaning.proofs.Definitions.{all_of, any_of, same, atom_tag, Field, whole, Front, empty, short, front, front_of, on_front, fields, contents_of}
 use Rattle.meaning.proofs.Definitions.{first_field, cells, place, accepted, is_atom_content, misplaced, wrong_atom, refused_at}
 use Rattle.meaning.proofs.Lists.{T_of, T-not_of, not-not}
@@ -39,9 +39,6 @@ pub record Reached (m : ℕ) (preds sheet : List ℕ) (at k : ℕ) (marks : List
 module _ (m : ℕ) (preds sheet : List ℕ) where
   pub reached-none : {marks : List ℕ} → marks ≡ replicate (cells m preds) 0 → Reached m preds sheet 0 0 marks []
   reached-none e = record { split = refl; count = refl; fine = tt; holding = subst (Holding m preds []) (sym e) (hold_none m preds); few = zero-le }
-
-  pub size-before : {marks : List ℕ} → marks ≡ replicate (cells m preds) 0 → length marks ≡ cells m preds
-  size-before e = ap length e ∙ length-replicate (cells m preds) 0
 
   module _ {at k : ℕ} {marks : List ℕ} {done : List Field} (r : Reached m preds sheet at k marks done) where
     -- at the end
@@ -100,9 +97,6 @@ module _ (m : ℕ) (preds sheet : List ℕ) where
 
       pub next_past : at < next_in at (front_of (drop at sheet))
       next_past = subst (λ (n : ℕ). at < n) (sym next-is) (omega arith)
-
-      pub count-lt : k < length sheet
-      count-lt = omega (arith, r.few)
 
       -- with one field more
       more : {at' : ℕ} {marks' : List ℕ}

@@ -17,6 +17,9 @@ pub record InTurn (m : ℕ) (preds marks : List ℕ) (p a size : ℕ) : Type 0 w
   pub many : size ≡ m ^ get_or preds p 0
   pub whole : length marks ≡ cells m preds
 
+pub turn : (m : ℕ) (preds marks : List ℕ) (p a size : ℕ) → p < length preds → a ≡ start m preds p → size ≡ m ^ get_or preds p 0 → length marks ≡ cells m preds → InTurn m preds marks p a size
+turn m preds marks p a size declared begins many whole = record { declared = declared; begins = begins; many = many; whole = whole }
+
 -- the fields of the marked atoms from predicate p on
 abbrev pub rest : ℕ → List ℕ → List ℕ → ℕ → List ℕ
 rest m preds marks p = atom_fields (atoms_from m preds marks p (drop p preds))

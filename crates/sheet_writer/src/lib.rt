@@ -18,7 +18,7 @@ const STATE_FIELD: usize = 5;
 // The bytes of a field that has an atom, before its states.
 const BEFORE_STATES: usize = 4;
 
-// How many bytes the fields of the marked atoms take.
+// How many bytes the fields of the marked atoms take. The part of each predicate begins where the one before ends, so the start is kept beside the loop.
 fn atoms_length(marks: &[u8], preds: &[u8], m: usize) -> usize
     requires { (m ≤ 16) × (length preds.now ≤ 16) × All (λ n. n ≤ 3) preds.now × (length marks.now ≡ cells m preds.now) }
     ensures { result ≡ length (atom_fields (marked_atoms m preds.now marks.now)) }

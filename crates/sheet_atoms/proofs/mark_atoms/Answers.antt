@@ -1,7 +1,7 @@
 -- The goals that are not found.
 use Rattle.meaning.proofs.Prelude.{ℕ, sym, ◌∙◌, subst, List, [], T, arith}
 use Rattle.meaning.proofs.Definitions.{is_atom_content}
-use Rattle.sheet_atoms.proofs.Turns.{reached-none, size-before, ends, next_past, count-lt, atom-here, stop_wrong, turn_atom, turn_other}
+use Rattle.sheet_atoms.proofs.Turns.{reached-none, ends, next_past, atom-here, stop_wrong, turn_atom, turn_other}
 use Rattle.sheet_atoms.proofs.mark_atoms.Goals as goal
 use Rattle.sheet_atoms.proofs.mark_atoms.Goals.{else-tag_of-eq-ATOM_TAG, then-tag_of-eq-ATOM_TAG+else-not-mark_atom}
 
@@ -25,19 +25,6 @@ returns-then-not-mark_atom c = let a = c.args in
     let r = stop_wrong a.m a.preds.now a.sheet.now l.invariant.1 h.0 (omega arith) (sym c.tag_of.ensures ∙ c.if-tag_of-eq-ATOM_TAG.true) c.content_of.ensures.result_value c.mark_atom.ensures.0 c.mark_atom.ensures.1 c.if-not-mark_atom.true in
     record { fault = r.0; size = r.1.0; holding = r.1.1 }
 
-pub shape_of-marks-then-not-mark_atom : goal.shape_of-marks-then-not-mark_atom
-shape_of-marks-then-not-mark_atom c = let a = c.args in
-    let h = c.requires in
-    let l = c.loop-at in
-    let r = stop_wrong a.m a.preds.now a.sheet.now l.invariant.1 h.0 (omega arith) (sym c.tag_of.ensures ∙ c.if-tag_of-eq-ATOM_TAG.true) c.content_of.ensures.result_value c.mark_atom.ensures.0 c.mark_atom.ensures.1 c.if-not-mark_atom.true in
-    r.1.0 ∙ sym (size-before a.m a.preds.now a.sheet.now c.requires.2)
-
-pub overflow_add-k : goal.overflow_add-k
-overflow_add-k c = let a = c.args in
-    let h = c.requires in
-    let l = c.loop-at in
-    omega (arith, count-lt a.m a.preds.now a.sheet.now l.invariant.1 h.0 (omega arith))
-
 pub loop-at-smaller : goal.loop-at-smaller
 loop-at-smaller c = let a = c.args in
     let h = c.requires in
@@ -52,10 +39,6 @@ loop-at-preserved c = let a = c.args in
       | then-tag_of-eq-ATOM_TAG+else-not-mark_atom w ↦ turn_atom a.m a.preds.now a.sheet.now l.invariant.1 h.0 (omega arith) (sym c.tag_of.ensures ∙ w.if-tag_of-eq-ATOM_TAG.true) w.content_of.ensures.result_value w.mark_atom.ensures.0 (w.marks-is ∙ w.mark_atom.ensures.1) c.next_of-at.ensures w.if-not-mark_atom.false
       | else-tag_of-eq-ATOM_TAG w ↦ turn_other a.m a.preds.now a.sheet.now l.invariant.1 h.0 (omega arith) c.next_of-at.ensures (λ e. w.if-tag_of-eq-ATOM_TAG.false (c.tag_of.ensures ∙ e)) w.marks-is
     ]
-
-pub shape_of-marks : goal.shape_of-marks
-shape_of-marks c = let a = c.args in
-    c.loop-at.invariant.1.holding.size ∙ sym (size-before a.m a.preds.now a.sheet.now c.requires.2)
 
 pub returns : goal.returns
 returns c = let a = c.args in

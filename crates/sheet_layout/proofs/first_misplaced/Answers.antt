@@ -1,18 +1,15 @@
 -- The goals that are not found.
-use Rattle.meaning.proofs.Prelude.{ℕ, ◌+◌, ◌≡◌, refl, sym, ap, ◌∙◌, ap₂, Bool, Option, List, [], take, drop, arith}
-use Rattle.meaning.proofs.Definitions.{Answer, accepted, misplaced, refused_at}
+use Rattle.meaning.proofs.Prelude.{ℕ, ◌+◌, ◌≡◌, sym, ap, ◌∙◌, ap₂, Bool, Option, List, take, drop}
+use Rattle.meaning.proofs.Definitions.{Answer, accepted, refused_at}
 use Rattle.meaning.proofs.Lists.{T_of, T-not_of}
 use Rattle.sheet_layout.specs.Reading.{misplaced_after}
-use Rattle.sheet_layout.proofs.Walking.{walked_none, stands, walk_end, walk_cut, walk_stop, walk_on}
+use Rattle.sheet_layout.proofs.Walking.{stands, walk_end, walk_cut, walk_stop, walk_on}
 use Rattle.sheet_layout.proofs.Placing.{seen_next}
 use Rattle.sheet_layout.proofs.first_misplaced.Goals as goal
 
 -- the answer by the lowest place that 10 fits
 abbrev answered : Option ℕ → Answer
 answered place = refused_at 10 place accepted
-
-pub loop-tag-init : goal.loop-tag-init
-loop-tag-init c = ([], walked_none (misplaced c.args.preds.now) c.args.sheet.now, refl)
 
 -- what was said of the field that was found
 module _ (preds sheet : List ℕ) (at tag len : ℕ) where
@@ -28,14 +25,6 @@ returns-then-is_misplaced c =
     let stand = stands c.args.sheet.now c.loop-tag.at c.field_of.ensures c.in-Whole.is in
     let says = said c.args.preds.now c.args.sheet.now c.loop-tag.at c.in-Whole.tag c.in-Whole.field-1 c.is_misplaced.ensures c.loop-tag.invariant.2 (c.content_of.ensures.result_value ∙ stand.content-is) in
     ap answered (sym (walk_stop c.loop-tag.invariant.1 stand (T_of _ (sym says ∙ c.if-is_misplaced.true))))
-
-pub overflow_add-k : goal.overflow_add-k
-overflow_add-k c = omega (arith, (stands c.args.sheet.now c.loop-tag.at c.field_of.ensures c.in-Whole.is).inside, c.loop-tag.invariant.1.few)
-
-pub loop-tag-smaller : goal.loop-tag-smaller
-loop-tag-smaller c =
-    let stand = stands c.args.sheet.now c.loop-tag.at c.field_of.ensures c.in-Whole.is in
-    omega (arith, c.next_of-at.ensures ∙ stand.next-is, stand.inside)
 
 pub loop-tag-preserved : goal.loop-tag-preserved
 loop-tag-preserved c =

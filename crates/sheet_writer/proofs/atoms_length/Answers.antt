@@ -1,25 +1,13 @@
 -- The goals that are not found.
-use Rattle.meaning.proofs.Prelude.{ℕ, List, ◌<◌, ◌^◌, get_or, ◌≤◌, ◌≡◌, sym, ap, length, zero-add, arith}
-use Rattle.meaning.proofs.Definitions.{cells, start, marked_atoms}
-use Rattle.meaning.proofs.Lists.{All-get_or}
+use Rattle.meaning.proofs.Prelude.{sym, ap, length, zero-add, arith}
+use Rattle.meaning.proofs.Definitions.{marked_atoms}
 use Rattle.meaning.proofs.Cells.{start-zero}
-use Rattle.sheet_writer.proofs.Turns.{InTurn, rest_end, part-inside, next_begins, rest-length, part-most, part_near}
+use Rattle.sheet_writer.proofs.Turns.{turn, rest_end, part-inside, next_begins, rest-length, part-most, part_near}
 use Rattle.sheet_writer.proofs.atoms_length.Goals as goal
-
--- the predicate in its turn
-turn : (m : ℕ) (preds marks : List ℕ) (p a size : ℕ) → p < length preds → a ≡ start m preds p → size ≡ m ^ get_or preds p 0 → length marks ≡ cells m preds → InTurn m preds marks p a size
-turn m preds marks p a size declared begins many whole = record { declared = declared; begins = begins; many = many; whole = whole }
 
 pub loop-n-init : goal.loop-n-init
 unfolding marked_atoms
 loop-n-init c = (sym (start-zero c.args.m c.args.preds.now), omega arith, zero-add _)
-
-pub power-requires : goal.power-requires
-power-requires c = let n = All-get_or (λ d. d ≤ 3) c.args.preds.now 0 c.requires.2 c.loop-n.n-index (omega arith) in
-    (omega arith, omega (arith, n))
-
-pub overflow_add-sum : goal.overflow_add-sum
-overflow_add-sum c = omega (arith, All-get_or (λ d. d ≤ 3) c.args.preds.now 0 c.requires.2 c.loop-n.n-index (omega arith))
 
 pub overflow_add-sum-in-loop-n : goal.overflow_add-sum-in-loop-n
 overflow_add-sum-in-loop-n c = let t = turn c.args.m c.args.preds.now c.args.marks.now c.loop-n.n-index c.loop-n.a c.power.result (omega arith) c.loop-n.invariant.0 c.power.ensures c.requires.3 in

@@ -1,7 +1,6 @@
 -- `sheet_writer::put_atom_field` meets its contract: the first four bytes of the field, then the row. Assumes nothing.
-use Rattle.meaning.proofs.Prelude.{ℕ, ◌+◌, ◌≤◌, ◌≡◌, sym, ap, subst, List, [], ◌∷◌, ◌++◌, length, take, arith}
+use Rattle.meaning.proofs.Prelude.{ℕ, ◌+◌, ◌≤◌, ◌≡◌, sym, subst, List, [], ◌∷◌, ◌++◌, length, take, arith}
 use Rattle.meaning.proofs.Definitions.{encode_field, atom_tag, row_of}
-use Rattle.meaning.proofs.Cells.{length-row_of}
 use Rattle.byte_runs.specs.Pasted.{Put}
 use Rattle.byte_runs.proofs.Putting.{put_room, put_then}
 use Rattle.sheet_writer.proofs.Rows.{row-part}
@@ -12,10 +11,6 @@ use Rattle.sheet_writer.proofs.put_atom_field.Goals as goal
 fits : (m n p c at : ℕ) (sheet : List ℕ) {row : List ℕ} → n ≤ 3 → row ≡ row_of m n c → at + length (encode_field atom_tag (p ∷ row_of m n c)) ≤ length sheet
     → at + length ((atom_tag ∷ 0 ∷ (n + 1) ∷ p ∷ []) ++ row) ≤ length sheet
 fits m n p c at sheet narrow row room = subst (λ (l : List ℕ). at + length l ≤ length sheet) (sym (field_parts m n p c narrow row)) room
-
-pub slice_bounds-put_bytes-end-2 : goal.slice_bounds-put_bytes-end-2
-slice_bounds-put_bytes-end-2 c = let a = c.args in
-    omega (arith, ap (λ (l : List ℕ). length l) (row-part a.m a.n a.c c.from.result c.row_at-row.result c.row_at-row.ensures c.from.ensures), length-row_of a.m a.n a.c, c.from.ensures)
 
 pub put_bytes-requires : goal.put_bytes-requires
 put_bytes-requires c = let a = c.args in

@@ -1,17 +1,13 @@
 -- The goals that are not found.
-use Rattle.meaning.proofs.Prelude.{ℕ, List, ◌<◌, ◌^◌, ◌+◌, ◌≤◌, ◌-◌, ◌≡◌, sym, length, get_or, arith}
+use Rattle.meaning.proofs.Prelude.{◌+◌, ◌≤◌, ◌-◌, sym, get_or, arith}
 use borrow.Rule.Slice.PartMut.{mid_of}
-use Rattle.meaning.proofs.Definitions.{cells, start, marked_atoms}
+use Rattle.meaning.proofs.Definitions.{marked_atoms}
 use Rattle.meaning.proofs.Lists.{All-get_or}
 use Rattle.meaning.proofs.Cells.{start-zero}
 use Rattle.byte_runs.proofs.Putting.{left_start, left_room, left_next, left_end}
 use Rattle.sheet_writer.specs.Parts.{atom_fields, part_atoms}
-use Rattle.sheet_writer.proofs.Turns.{InTurn, rest, rest_end, part-inside, next_begins, part-size, rest-next}
+use Rattle.sheet_writer.proofs.Turns.{turn, rest, rest_end, part-inside, next_begins, part-size, rest-next}
 use Rattle.sheet_writer.proofs.put_atom_fields.Goals as goal
-
--- the predicate in its turn
-turn : (m : ℕ) (preds marks : List ℕ) (p a size : ℕ) → p < length preds → a ≡ start m preds p → size ≡ m ^ get_or preds p 0 → length marks ≡ cells m preds → InTurn m preds marks p a size
-turn m preds marks p a size declared begins many whole = record { declared = declared; begins = begins; many = many; whole = whole }
 
 pub loop-p-init : goal.loop-p-init
 unfolding marked_atoms
@@ -19,10 +15,6 @@ loop-p-init c = let a = c.args in (
   sym (start-zero a.m a.preds.now),
   left_start a.sheet.now a.from (atom_fields (marked_atoms a.m a.preds.now a.marks.now)) c.requires.5,
 )
-
-pub power-requires : goal.power-requires
-power-requires c = let n = All-get_or (λ d. d ≤ 3) c.args.preds.now 0 c.requires.3 c.loop-p.p (omega arith) in
-    (omega arith, omega (arith, n))
 
 pub put_part-at-requires : goal.put_part-at-requires
 put_part-at-requires c = let a = c.args in
@@ -59,6 +51,3 @@ overflow_add-e c = omega (arith, part-inside (turn c.args.m c.args.preds.now c.a
 
 pub slice_bounds-put_part-end : goal.slice_bounds-put_part-end
 slice_bounds-put_part-end c = omega (arith, part-inside (turn c.args.m c.args.preds.now c.args.marks.now c.loop-p.p c.loop-p.a c.power.result (omega arith) c.loop-p.invariant.0 c.power.ensures c.requires.4))
-
-pub shape_of-sheet : goal.shape_of-sheet
-shape_of-sheet c = c.loop-p.invariant.1.1

@@ -39,6 +39,3 @@ pub returns : goal.returns
 returns c = let a = c.args in
     let l = c.loop-c in
     left_end a.sheet.now a.from (atom_fields (part_atoms a.m a.n a.p 0 a.part.now)) l.sheet l.at (part_end a.m a.n a.p a.part.now l.c (omega arith)) l.invariant
-
-pub shape_of-sheet : goal.shape_of-sheet
-shape_of-sheet c = c.loop-c.invariant.1

@@ -27,6 +27,3 @@ returns c = let a = c.args in
     let l = c.loop-state in
     let w = left_end a.sheet.now 0 (state_fields a.states.now) l.sheet l.at (states-end a.states.now l.state-index (omega arith)) l.invariant in
     (w.0, omega (arith, w.1, states-length a.states.now))
-
-pub shape_of-sheet : goal.shape_of-sheet
-shape_of-sheet c = c.loop-state.invariant.1
