@@ -1,5 +1,5 @@
 -- A number put into an array of at most 16 rising numbers, by its place; and several, from the last to the first. Assumes nothing.
-use Rattle.meaning.proofs.Prelude.{ℕ, ◌+◌, ◌≤◌, ◌<◌, ◌≡◌, sym, ap, ◌∙◌, subst, ap₂, List, ◌∷◌, ◌++◌, length, get_or, take, drop, get_or-take, arith}
+use Rattle.meaning.proofs.Prelude.{ℕ, ◌+◌, ◌≤◌, ◌<◌, ◌≡◌, sym, ap, ◌∙◌, subst, ap₂, List, ◌∷◌, ◌++◌, length, get_or, take, drop, arith}
 use Rattle.meaning.proofs.Definitions.{most_states, insert_rising, insert_all}
 use Rattle.std.specs.Prelude.{Result, Ok, Err}
 use Rattle.states.specs.Packed.{place_for, put_at, padded_states, Holds, packed}
@@ -26,26 +26,28 @@ module _ {sets : List ℕ} {n : ℕ} (h : Holds sets n) (s i : ℕ) (at : i ≡ 
   pub place-within : i ≤ n
   place-within = omega (arith, size, place-le s l)
 
-  pub put_same : i < n → get_or sets i 0 ≡ s → answer n sets ≡ packed (insert_rising s l)
+  pub put_same : i < length l → get_or l i 0 ≡ s → answer n sets ≡ packed (insert_rising s l)
   put_same lt e =
       answer-packed n sets l (sym size) h.few h.padding
-      ∙ ap packed (sym (insert_same s l (omega (arith, size)) (ap (λ (k : ℕ). get_or l k 0) (sym at) ∙ get_or-take n sets i 0 lt ∙ e)))
+      ∙ ap packed (sym (insert_same s l (omega arith) (ap (λ (k : ℕ). get_or l k 0) (sym at) ∙ e)))
 
-  new : (i < n → get_or sets i 0 ≡ s → ⊥) → insert_rising s l ≡ take i l ++ (s ∷ drop i l)
+  abbrev pub IsNew : Type 0
+  IsNew = i < length l → get_or l i 0 ≡ s → ⊥
+
+  new : IsNew → insert_rising s l ≡ take i l ++ (s ∷ drop i l)
   new other =
       subst
       (λ (k : ℕ). insert_rising s l ≡ take k l ++ (s ∷ drop k l))
       (sym at)
-      (insert_new-at s l
-      (λ lt e. let below : i < n = omega (arith, size) in other below (sym (get_or-take n sets i 0 below) ∙ ap (λ (k : ℕ). get_or l k 0) at ∙ e)))
+      (insert_new-at s l (λ lt e. other (omega arith) (ap (λ (k : ℕ). get_or l k 0) at ∙ e)))
 
-  length-new : (i < n → get_or sets i 0 ≡ s → ⊥) → length (insert_rising s l) ≡ n + 1
+  length-new : IsNew → length (insert_rising s l) ≡ n + 1
   length-new other = ap (λ (k : List ℕ). length k) (new other) ∙ length_put l i s (omega (arith, size, place-within)) ∙ omega (arith, size)
 
-  pub put_full : (i < n → get_or sets i 0 ≡ s → ⊥) → n ≡ most_states → (many : TooMany) → Err many ≡ packed (insert_rising s l)
+  pub put_full : IsNew → n ≡ most_states → (many : TooMany) → Err many ≡ packed (insert_rising s l)
   put_full other e many = sym (packed_many (insert_rising s l) many (omega (arith, length-new other)))
 
-  pub put_more : (i < n → get_or sets i 0 ≡ s → ⊥) → n < most_states → answer (n + 1) (put_at sets i n s) ≡ packed (insert_rising s l)
+  pub put_more : IsNew → n < most_states → answer (n + 1) (put_at sets i n s) ≡ packed (insert_rising s l)
   put_more other lt =
       answer-packed
       (n + 1)

@@ -56,8 +56,9 @@ impl States {
         ensures { result ≡ packed (insert_rising set (take self.count self.sets)) }
     {
         let States { count, sets } = self;
-        let i = place(&sets[..count], set);
-        if i < count && sets[i] == set {
+        let known = &sets[..count];
+        let i = place(known, set);
+        if i < known.len() && known[i] == set {
             return Ok(self);
         }
         if count == MOST {
