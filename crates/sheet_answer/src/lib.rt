@@ -33,13 +33,17 @@ pub fn judge_sheet(
     ensures size { length marks.new ≡ length marks.old }
 {
     let m = found.len();
+    let predicates = Predicates {
+        arities: preds,
+        segments,
+    };
     if let Some(k) = sheet_layout::first_misplaced(sheet, preds) {
         return answers::refusal(meaning::SHEET_MISPLACED, k);
     }
     if let Some(i) = sheet_layout::first_difference(sheet, found) {
         return answers::refusal(meaning::SHEET_STATES_DIFFER, i);
     }
-    if let Some(k) = sheet_atoms::mark_atoms(sheet, marks, preds, segments, m) {
+    if let Some(k) = sheet_atoms::mark_atoms(sheet, marks, &predicates, m) {
         return answers::refusal(meaning::SHEET_WRONG_ATOM, k);
     }
     let counts = known.counts;
@@ -56,10 +60,7 @@ pub fn judge_sheet(
             tables,
             m,
         },
-        &Predicates {
-            arities: preds,
-            segments,
-        },
+        &predicates,
         marks,
     ) {
         Some(c) => answers::refusal(meaning::SHEET_NOT_CLOSED, c),
