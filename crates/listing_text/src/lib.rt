@@ -1,4 +1,5 @@
-// The lines of a listing, put piece by piece into a buffer. Each function that puts answers the position past what it put.
+// The lines of a listing, put piece by piece into a buffer. Each function that puts answers the position past what it put. The buffer and the position in it
+// stay two arguments, since `Put` of the contracts of `put_piece` and `put_refusal` names both.
 
 #![tactic(auto)]
 
@@ -265,7 +266,8 @@ impl Findings<'_> {
         self.states.len() + self.marks.len() + self.verdicts.len() + HEADINGS
     }
 
-    // Piece k of the listing. No piece is longer than 128 bytes.
+    // Piece k of the listing: the numbers go on from the states over the model to the queries, as `piece` of the contract counts. No piece is longer than 128
+    // bytes.
     pub fn put_piece(&self, out: &mut [u8], at: usize, k: usize) -> usize
         requires results { Results self.now.file.now self.now.states.now self.now.marks.now self.now.verdicts.now × Knows self.now.known.now (fields_read self.now.file.now) }
         requires atoms_value { (self.now.atoms ≡ length (atoms_of self.now.file.now)) × (self.now.rounds ≡ rounds_of self.now.file.now) × (k < pieces self.now.file.now) × (at + 128 ≤ length out.old) }
