@@ -1,45 +1,13 @@
-// Bytes and small numbers: a number of one width as another, tests over slices, slices filled and copied.
+// Bytes: tests over slices, slices copied, bytes put into a buffer.
 
 #![tactic(auto)]
 
-ghost use Rattle.std.specs.Prelude.{◌+◌, ◌≤◌, ◌<◌, ◌≡◌, [], ◌∷◌, eqb, ltb, length, replicate};
-ghost use Rattle.meaning.specs.Lists.{same, any_of, all_of};
+ghost use Rattle.std.specs.Prelude.{◌+◌, ◌≤◌, ◌<◌, ◌≡◌, [], ◌∷◌, eqb, ltb, length};
+ghost use Rattle.meaning.specs.Lists.{any_of, all_of};
 ghost use Rattle.meaning.specs.Calls.{written};
 ghost use Rattle.byte_runs.specs.Pasted.{pasted};
 
-pub fn wide(b: u8) -> usize
-    ensures { (result ≡ b) × (result < 256) }
-{
-    b as usize
-}
-
-pub fn word(b: u8) -> u16
-    ensures { (result ≡ b) × (result < 256) }
-{
-    b as u16
-}
-
-pub fn index(n: u32) -> usize
-    ensures { (result ≡ n) × (result < 4294967296) }
-{
-    n as usize
-}
-
-pub fn byte(n: usize) -> u8
-    requires { n < 256 }
-    ensures { result ≡ n }
-{
-    n as u8
-}
-
-// Whether two slices hold the same bytes.
-pub fn same(a: &[u8], b: &[u8]) -> bool
-    ensures { result ≡ same a.now b.now }
-{
-    a == b
-}
-
-// Whether a byte is among those of a slice.
+// Whether a byte is among those of a slice. It stands beside the library's for the edit another_byte_found.
 pub fn contains(s: &[u8], b: u8) -> bool
     ensures { result ≡ any_of (λ x. eqb x b) s.now }
 {
@@ -53,19 +21,7 @@ pub fn all_below(s: &[u8], m: usize) -> bool
     s.iter().all(|&x| usize::from(x) < m)
 }
 
-pub fn zero(part: &mut [u8])
-    ensures { part.new ≡ replicate (length part.old) 0 }
-{
-    part.fill(0);
-}
-
-pub fn zero_words(part: &mut [u16])
-    ensures { part.new ≡ replicate (length part.old) 0 }
-{
-    part.fill(0);
-}
-
-// Copies words to the front of a buffer.
+// Copies words to the front of a buffer. It stands beside the library's for the edit first_word_everywhere.
 pub fn copy_words(to: &mut [u16], from: &[u16])
     requires { length from.now ≤ length to.old }
     ensures { to.new ≡ written from.now to.old }

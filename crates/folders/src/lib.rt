@@ -43,7 +43,8 @@ pub fn print_counts(
     println!(rt; "{folder}: {files} files, {differences} differences")
 }
 
-// The path of file k, by its three digits, which stand after a folder of four letters.
+// The path of file k, by its three digits, which stand after a folder of four letters. A path stays bytes that are changed in place, as `numbered_path` of the
+// contract says.
 pub fn put_digits(path: &mut [u8], k: usize)
     requires { (8 ≤ length path.old) × (k < 1000) }
     ensures { path.new ≡ numbered_path path.old k }
@@ -54,6 +55,7 @@ pub fn put_digits(path: &mut [u8], k: usize)
 }
 
 // Reads until the buffer is full or the reader ends, and hands back how many bytes are at the buffer's start. A read that a signal interrupts is tried again.
+// The library's `read_exact` fails where the file is shorter than the buffer, and its `read_to_end` wants a heap.
 fn read_full(reader: &mut impl io::Read, buffer: &mut [u8]) -> io::Result<usize>
     ensures { IfOk result (λ n. IsPrefixLen n buffer.new) }
 {

@@ -42,12 +42,12 @@ fn write_listing(out: &mut impl Write, file: &[u8]) -> io::Result<()> {
         &mut verdicts,
         &mut line,
     );
-    let analysis = answered.analysis;
-    if analysis.answer.number != 0 {
-        return out.write_all(&line[..answered.text]);
-    }
+    let counts = match answered {
+        Ok(counts) => counts,
+        Err(refused) => return out.write_all(&line[..refused.text]),
+    };
     let known = parser::read(file).known;
-    let findings = listing_answer::findings(file, &known, &analysis, &states, &marks, &verdicts);
+    let findings = listing_answer::findings(file, &known, &counts, &states, &marks, &verdicts);
     write_pieces(out, &findings)
 }
 

@@ -1,8 +1,9 @@
 -- What is known of an accepted file: where its types' and predicates' names stand, and its limits. Assumes nothing.
-use Rattle.meaning.proofs.Prelude.{ℕ, ◌≤◌, ◌<◌, ◌≡◌, sym, ap, ◌∙◌, subst, ◌&&◌, List, [], ◌∷◌, map, T, leb, leb→le, length, get_or, drop}
-use Rattle.meaning.proofs.Prelude.{get_or-append, get_or-map, arith}
+use Rattle.meaning.proofs.Prelude.{ℕ, ◌≤◌, ◌<◌, ◌≡◌, sym, ap, ◌∙◌, ap₂, subst, ◌&&◌, List, [], ◌∷◌, map, T, leb, leb→le, length, get_or, drop}
+use Rattle.std.proofs.Common.{Bor}
+use Rattle.meaning.proofs.Prelude.{get_or-map, arith}
 use Rattle.meaning.proofs.Definitions.{All, all_of, type, predicate, most_name, most_predicate_arity, fields, is_name, is_named, name_byte, names, accepted}
-use Rattle.meaning.proofs.Definitions.{contents, arities_in, named, rules_in, rules_of, read_answer, file_answer, predicate_arities, states_of, model_of}
+use Rattle.meaning.proofs.Definitions.{contents, named, rules_in, rules_of, read_answer, file_answer, predicate_arities, states_of, model_of}
 use Rattle.meaning.specs.Syntax as Syntax
 use Rattle.meaning.proofs.Lists.{All-map, All-get_or, both}
 use Rattle.meaning.proofs.Contents.{is_named-exact}
@@ -11,7 +12,7 @@ use Rattle.declarations.specs.Known.{Knows, fields_read}
 use Rattle.fields.specs.Found.{nth_in}
 use Rattle.parser.proofs.Whole.{nth_earlier, reads}
 use Rattle.cells.proofs.Segments.{start_all, start-most}
-use Rattle.parser.proofs.Limits.{accepted-read, accepted-few, fields-well, arities_are, arities-length, predicates-few, predicates-small, all_known}
+use Rattle.parser.proofs.Limits.{accepted-read, accepted-few, fields-well, arities-length, predicates-few, predicates-small}
 use Rattle.meaning.proofs.Calls.{marks-length}
 
 -- a name has at most 8 bytes
@@ -24,6 +25,14 @@ name-short name t =
 named_some : (content : List ℕ) → T (is_named most_predicate_arity content) → 1 ≤ length content
 named_some [] t = absurd t
 named_some (arity ∷ name) t = omega arith
+
+-- a content that is found in a section of the file is found where the section starts
+pub nth_of_section : {content : List ℕ} {bytes : Bor (List ℕ)} {first start : ℕ} (given : Bor (List ℕ)) (k : ℕ)
+    → content ≡ nth_in k (drop first bytes.now)
+    → bytes ≡ given
+    → first ≡ start
+    → content ≡ nth_in k (drop start given.now)
+nth_of_section given k found e f = found ∙ ap₂ (λ (n : ℕ) (b : Bor (List ℕ)). nth_in k (drop n b.now)) f e
 
 -- an accepted file keeps the limits
 module _ (file : List ℕ) (e : file_answer file ≡ accepted) where
@@ -61,12 +70,6 @@ module _ (file : List ℕ) (e : file_answer file ≡ accepted) where
     pub type-name : (t : ℕ) → t < length (rules_of file).types → nth_in t (drop (get_or known.starts 2 0) file) ≡ get_or (rules_of file).types t []
     unfolding rules_of rules_in
     type-name t h = nth_earlier file known whole knows type t h
-
-    pub arity_known : (p : ℕ) → p < length (predicate_arities file) → get_or known.predicates p 0 ≡ get_or (predicate_arities file) p 0
-    arity_known p h =
-        ap (λ (l : List ℕ). get_or l p 0) (all_known file e known knows).predicates
-        ∙ get_or-append (arities_in predicate (fields file)) _ 0 p (subst (λ (l : List ℕ). p < length l) (arities_are file e) h)
-        ∙ ap (λ (l : List ℕ). get_or l p 0) (sym (arities_are file e))
 
     -- the content of a predicate is its arity and its name
     pub record NameIn (p : ℕ) (content : List ℕ) : Type 0 where

@@ -1,4 +1,5 @@
-// The lines of a listing, put piece by piece into a buffer. Each function that puts answers the position past what it put.
+// The lines of a listing, put piece by piece into a buffer. Each function that puts answers the position past what it put. The buffer and the position in it
+// stay two arguments, since `Put` of the contracts of `put_piece` and `put_refusal` names both.
 
 #![tactic(auto)]
 
@@ -14,7 +15,7 @@ ghost use Rattle.listing_text.specs.Lines.{open_word, clear_word, number_after, 
 ghost use Rattle.listing_text.specs.Listing.{atom_line, place_line, model_text, pieces, piece, Results};
 
 use automaton::TypeSet;
-use declarations::Known;
+use declarations::{Kind, Known};
 
 // No piece has more bytes.
 pub const PIECE: usize = 128;
@@ -161,10 +162,10 @@ impl Findings<'_> {
         requires file_in_bounds { at + length (held_names state 0 (rules_of self.now.file.now).types) ≤ length out.old }
         ensures { Put out.old at (held_names state 0 (rules_of self.now.file.now).types) out.new result }
     {
-        let from = self.known.starts[declarations::TYPES];
+        let types = self.known.section(self.file, Kind::Type);
         let mut next = at;
-        for t in 0..self.known.counts[declarations::TYPES] {
-            let name = fields::nth_content(self.file, from, usize::from(t));
+        for t in 0..types.count {
+            let name = fields::nth_content(types.bytes, types.from, usize::from(t));
             next = put_type(out, next, state, t, name);
         }
         next
@@ -201,10 +202,10 @@ impl Findings<'_> {
         requires p_in_bounds { (p < length (predicate_arities self.now.file.now)) × (cell < length self.now.states.now ^ get_or (predicate_arities self.now.file.now) p 0) × (at + 128 ≤ length out.old) }
         ensures { Put out.old at (atom_line self.now.file.now (p ∷ row_of (length self.now.states.now) (get_or (predicate_arities self.now.file.now) p 0) cell)) out.new result × (result ≤ at + 128) }
     {
-        let arity = self.known.predicates[p];
+        let arity = self.known.predicates()[p];
         let row = cells::row_at(cell, self.states.len(), arity);
-        let from = self.known.starts[declarations::PREDICATES];
-        let content = fields::nth_content(self.file, from, p);
+        let predicates = self.known.section(self.file, Kind::Predicate);
+        let content = fields::nth_content(predicates.bytes, predicates.from, p);
         put_atom(out, at, &content[1..], &row[..usize::from(arity)])
     }
 
@@ -217,8 +218,7 @@ impl Findings<'_> {
         if self.marks[j] == 0 {
             return at;
         }
-        let n = usize::from(self.known.counts[declarations::PREDICATES]);
-        let place = place_of(&self.known.predicates[..n], self.states.len(), j);
+        let place = place_of(self.known.predicates(), self.states.len(), j);
         self.put_cell(out, at, place.predicate, place.cell)
     }
 
@@ -265,7 +265,8 @@ impl Findings<'_> {
         self.states.len() + self.marks.len() + self.verdicts.len() + HEADINGS
     }
 
-    // Piece k of the listing. No piece is longer than 128 bytes.
+    // Piece k of the listing: the numbers go on from the states over the model to the queries, as `piece` of the contract counts. No piece is longer than 128
+    // bytes.
     pub fn put_piece(&self, out: &mut [u8], at: usize, k: usize) -> usize
         requires results { Results self.now.file.now self.now.states.now self.now.marks.now self.now.verdicts.now × Knows self.now.known.now (fields_read self.now.file.now) }
         requires atoms_value { (self.now.atoms ≡ length (atoms_of self.now.file.now)) × (self.now.rounds ≡ rounds_of self.now.file.now) × (k < pieces self.now.file.now) × (at + 128 ≤ length out.old) }

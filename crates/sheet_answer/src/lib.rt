@@ -29,13 +29,7 @@ pub fn judge_sheet(sheet: &[u8], handed: &HandedFile, marks: &mut [u8]) -> Resul
     if let Some(i) = sheet_layout::first_difference(sheet, accepted.states) {
         return Err(Refusal::SheetStatesDiffer(i));
     }
-    if let Some(k) = sheet_atoms::mark_atoms(
-        sheet,
-        marks,
-        predicates.arities,
-        predicates.segments,
-        automaton.m,
-    ) {
+    if let Some(k) = sheet_atoms::mark_atoms(sheet, marks, predicates, automaton.m) {
         return Err(Refusal::SheetWrongAtom(k));
     }
     let clauses = accepted.known.section(accepted.file, Kind::Clause);

@@ -13,18 +13,20 @@ ghost use Rattle.meaning.specs.Certificates.{is_atom_content, misplaced, wrong_a
 ghost use Rattle.sheet_reader.specs.Faults.{fault_answer};
 ghost use Rattle.sheet_atoms.specs.Holding.{is_free, Segmented, Holding};
 
+use evaluation::Predicates;
+
 // Marks an atom as new, in its predicate's part of the marks, if its states are below m and it is not marked. Hands back whether that was so.
-fn mark_atom(content: &[u8], marks: &mut [u8], preds: &[u8], segments: &[u32], m: usize) -> bool
-    requires { T (is_atom_content preds.now content.now) × Segmented m preds.now segments.now × (length marks.old ≡ cells m preds.now) }
-    ensures { (result ≡ is_free m preds.now marks.old content.now) × (marks.new ≡ cond result (set marks.old (place m preds.now (get_or content.now 0 0) (drop 1 content.now)) 2) marks.old) }
+fn mark_atom(content: &[u8], marks: &mut [u8], predicates: &Predicates, m: usize) -> bool
+    requires { T (is_atom_content predicates.now.arities.now content.now) × Segmented m predicates.now.arities.now predicates.now.segments.now × (length marks.old ≡ cells m predicates.now.arities.now) }
+    ensures { (result ≡ is_free m predicates.now.arities.now marks.old content.now) × (marks.new ≡ cond result (set marks.old (place m predicates.now.arities.now (get_or content.now 0 0) (drop 1 content.now)) 2) marks.old) }
 {
     let p = usize::from(content[0]);
     let row = &content[1..];
     if !byte_runs::all_below(row, m) {
         return false;
     }
-    let a = segments[p] as usize;
-    let e = a + cells::power(m, preds[p]);
+    let a = predicates.segments[p] as usize;
+    let e = a + cells::power(m, predicates.arities[p]);
     cells::replace(
         &mut marks[a..e],
         cells::cell_of(row, m),
@@ -37,28 +39,22 @@ fn mark_atom(content: &[u8], marks: &mut [u8], preds: &[u8], segments: &[u32], m
 pub fn mark_atoms(
     sheet: &[u8],
     marks: &mut [u8],
-    preds: &[u8],
-    segments: &[u32],
+    predicates: &Predicates,
     m: usize,
 ) -> Option<usize>
-    requires { (first_field (misplaced preds.now) (fields sheet.now) ≡ none) × Segmented m preds.now segments.now × (marks.old ≡ replicate (cells m preds.now) 0) }
+    requires { (first_field (misplaced predicates.now.arities.now) (fields sheet.now) ≡ none) × Segmented m predicates.now.arities.now predicates.now.segments.now × (marks.old ≡ replicate (cells m predicates.now.arities.now) 0) }
     ensures fault { fault_answer 12 result ≡ refused_at 12 (first_field (wrong_atom m) (fields sheet.now)) accepted }
-    ensures size { length marks.new ≡ cells m preds.now }
-    ensures holding { first_field (wrong_atom m) (fields sheet.now) ≡ none → Holding m preds.now (contents_of atom_tag (fields sheet.now)) marks.new }
+    ensures size { length marks.new ≡ cells m predicates.now.arities.now }
+    ensures holding { first_field (wrong_atom m) (fields sheet.now) ≡ none → Holding m predicates.now.arities.now (contents_of atom_tag (fields sheet.now)) marks.new }
 {
+    // the fields differ in length: the position and their number go on side by side, and no range or slice has either
     let mut at = 0;
     let mut k = 0;
     while at < sheet.len() {
-        if sheet_reader::tag_of(sheet, at) == meaning::ATOM_TAG {
-            if !mark_atom(
-                sheet_reader::content_of(sheet, at),
-                marks,
-                preds,
-                segments,
-                m,
-            ) {
-                return Some(k);
-            }
+        if sheet_reader::tag_of(sheet, at) == meaning::ATOM_TAG
+            && !mark_atom(sheet_reader::content_of(sheet, at), marks, predicates, m)
+        {
+            return Some(k);
         }
         at = sheet_reader::next_of(sheet, at);
         k += 1;

@@ -39,6 +39,7 @@ fn is_misplaced(tag: u8, content: &[u8], preds: &[u8], atoms: bool) -> bool
 pub fn first_misplaced(sheet: &[u8], preds: &[u8]) -> Option<usize>
     ensures { fault_answer 10 result ≡ refused_at 10 (first_field (misplaced preds.now) (fields sheet.now)) accepted }
 {
+    // the fields differ in length: the position and their number go on side by side, and no range or slice has either
     let mut at = 0;
     let mut k = 0;
     let mut atoms = false;

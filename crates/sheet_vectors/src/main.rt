@@ -35,10 +35,11 @@ fn is_checked(file: &[u8], expected: &[u8]) -> bool {
     };
     let mut tables = [0u8; buffers::TABLES];
     let mut marks = [0u8; MARKS];
-    let answer = sheet_check::check(file, sheet, &mut tables, &mut marks);
-    answer.number == usize::from(*number)
-        && answer.place == usize::from(place)
-        && tables.starts_with(cells)
+    let (answer, at) = match sheet_check::check(file, sheet, &mut tables, &mut marks) {
+        Ok(()) => (0, 0),
+        Err(refusal) => (refusal.number(), refusal.place()),
+    };
+    answer == usize::from(*number) && at == usize::from(place) && tables.starts_with(cells)
 }
 
 // The same; if it is not, that is printed.
@@ -59,7 +60,7 @@ fn is_sheet(file: &[u8], expected: &[u8]) -> bool
     let mut marks = [0u8; MARKS];
     let mut verdicts = [0u8; buffers::VERDICTS];
     let mut sheet = [0u8; SHEET];
-    let r = certificate::write(
+    let written = certificate::write(
         file,
         &mut states,
         &mut tables,
@@ -67,7 +68,10 @@ fn is_sheet(file: &[u8], expected: &[u8]) -> bool
         &mut verdicts,
         &mut sheet,
     );
-    r.answer.number == 0 && &sheet[..r.bytes] == expected
+    match written {
+        Ok(written) => &sheet[..written.bytes] == expected,
+        Err(_) => false,
+    }
 }
 
 // The same; if they are not, that is printed.

@@ -9,10 +9,12 @@ use Rattle.byte_runs.specs.Pasted.{Put}
 use Rattle.listing_text.specs.Lines.{refused_line, refusal_text}
 use Rattle.listing_text.specs.Listing.{listing, pieces, piece}
 use Rattle.listing_text.proofs.Pieces.{listing-pieces, pieces-next, listing-refused}
-use Rattle.answers.specs.Answered.{answered}
+use Rattle.std.specs.Prelude.{Err}
+use Rattle.answers.specs.declared.Refusal.{Refusal}
+use Rattle.answers.specs.Refused.{refusal_answer}
+use Rattle.acceptance.proofs.Answering.{refusal_number}
 use Rattle.listing_answer.proofs.Texts.{text_is, answer-is, line_text}
 use Rattle.analysis.specs.Given.{given}
-use Rattle.analysis.specs.declared.Analysis.{Analysis}
 
 -- pieces of a listing `s` before number k, and what is left of it
 module _ (file s rest : List ℕ) (k : ℕ) (front : joined (table k (piece file)) ++ rest ≡ s) where
@@ -38,34 +40,33 @@ module _ (file s rest : List ℕ) (k : ℕ) (front : joined (table k (piece file
       ∙ listing-pieces file e
 
 -- a refusal other than 9 is that of the file
-module _ (file : List ℕ) (before after : Buffers) (r : Analysis) (is : given r after ≡ analysed file before) where
-  refusal_is : answered r.answer ≡ and_then (file_answer file) (refuse_if (not (long_enough file before)) 9 0)
+module _ (file : List ℕ) (before after : Buffers) (r : Refusal) (is : given (Err r) after ≡ analysed file before) where
+  refusal_is : refusal_answer r ≡ and_then (file_answer file) (refuse_if (not (long_enough file before)) 9 0)
   unfolding analysis_answer
-  refusal_is = answer-is file before after r is
+  refusal_is = answer-is file before after (Err r) is
 
-  pub refused-is : r.answer.number ≢ 0
-      → (text : List ℕ)
+  pub refused-is : (text : List ℕ)
       → text ≡ refusal_text (analysis_answer file before)
       → (s : List ℕ)
       → (b : Bool)
-      → b ≡ (not (eqb r.answer.number 9) && same text s)
+      → b ≡ (not (eqb (refusal_answer r).number 9) && same text s)
       → b ≡ true
       → s ≡ listing file
-  refused-is h text is-text s b told e =
-      let tests = both (not (eqb r.answer.number 9)) (same text s) (T_of _ (sym told ∙ e)) in
+  refused-is text is-text s b told e =
+      let tests = both (not (eqb (refusal_answer r).number 9)) (same text s) (T_of _ (sym told ∙ e)) in
       let file-is = file_refused (eqb (file_answer file).number 0) refl tests.0 in
       sym (same-eq text s tests.1)
       ∙ is-text
-      ∙ ap refusal_text (sym (answer-is file before after r is))
-      ∙ line_text (answered r.answer) h
+      ∙ ap refusal_text (sym (answer-is file before after (Err r) is))
+      ∙ line_text r
       ∙ ap refused_line file-is
-      ∙ sym (listing-refused file (λ z. h (ap (λ (a : Answer). a.number) file-is ∙ z)))
+      ∙ sym (listing-refused file (λ z. refusal_number r (ap (λ (a : Answer). a.number) file-is ∙ z)))
     where
-      no_refusal : (b : Bool) → T (not (eqb r.answer.number 9)) → answered r.answer ≡ refuse_if b 9 0 → ⊥
+      no_refusal : (b : Bool) → T (not (eqb (refusal_answer r).number 9)) → refusal_answer r ≡ refuse_if b 9 0 → ⊥
       no_refusal true other q = subst (λ (n : ℕ). T (not (eqb n 9))) (ap (λ (a : Answer). a.number) q) other
-      no_refusal false other q = h (ap (λ (a : Answer). a.number) q)
+      no_refusal false other q = refusal_number r (ap (λ (a : Answer). a.number) q)
 
-      file_refused : (b : Bool) → eqb (file_answer file).number 0 ≡ b → T (not (eqb r.answer.number 9)) → answered r.answer ≡ file_answer file
+      file_refused : (b : Bool) → eqb (file_answer file).number 0 ≡ b → T (not (eqb (refusal_answer r).number 9)) → refusal_answer r ≡ file_answer file
       file_refused true q other =
           absurd
           (no_refusal

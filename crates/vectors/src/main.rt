@@ -6,9 +6,11 @@
 ghost use Rattle.std.specs.Prelude.{◌+◌, ◌≤◌, ◌≡◌, true, not, ◌&&◌, eqb, IfOk, length};
 ghost use Rattle.meaning.specs.Lists.{same};
 ghost use Rattle.meaning.specs.Calls.{rounds_of, atoms_of};
+ghost use Rattle.answers.specs.Refused.{refusal_answer};
 ghost use Rattle.declarations.specs.Known.{Knows, fields_read};
 ghost use Rattle.listing_text.specs.Listing.{listing, Results};
 
+use answers::Refusal;
 use listing_text::Findings;
 use std::io;
 
@@ -33,10 +35,10 @@ fn are_pieces(findings: &Findings, expected: &[u8], out: &mut [u8]) -> bool
 }
 
 // Whether a listing is the text of a refusal. One with 9 is about the buffers, and stands in no listing.
-fn is_refusal(number: usize, text: &[u8], expected: &[u8]) -> bool
-    ensures { result ≡ (not (eqb number 9) && same text.now expected.now) }
+fn is_refusal(refusal: Refusal, text: &[u8], expected: &[u8]) -> bool
+    ensures { result ≡ (not (eqb (refusal_answer refusal).number 9) && same text.now expected.now) }
 {
-    number != meaning::BUFFER_TOO_SHORT && text == expected
+    refusal.number() != meaning::BUFFER_TOO_SHORT && text == expected
 }
 
 // Whether a listing is that of a file. The buffers are as long as any file needs, but for the marks.
@@ -56,12 +58,12 @@ fn is_listing(file: &[u8], expected: &[u8]) -> bool
         &mut verdicts,
         &mut out,
     );
-    let analysis = answered.analysis;
-    if analysis.answer.number != 0 {
-        return is_refusal(analysis.answer.number, &out[..answered.text], expected);
-    }
+    let counts = match answered {
+        Ok(counts) => counts,
+        Err(refused) => return is_refusal(refused.refusal, &out[..refused.text], expected),
+    };
     let known = parser::read(file).known;
-    let findings = listing_answer::findings(file, &known, &analysis, &states, &marks, &verdicts);
+    let findings = listing_answer::findings(file, &known, &counts, &states, &marks, &verdicts);
     are_pieces(&findings, expected, &mut out)
 }
 

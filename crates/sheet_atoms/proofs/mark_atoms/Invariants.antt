@@ -6,7 +6,7 @@ use Rattle.sheet_atoms.proofs.Turns.{Reached}
 use Rattle.sheet_atoms.proofs.mark_atoms.Given as goal
 
 abbrev pub invariant-loop-at : goal.invariant-loop-at
-invariant-loop-at l = (done : List Field) × Reached l.m l.preds l.sheet l.at l.k l.marks done
+invariant-loop-at l = (done : List Field) × Reached l.m l.predicates.arities.now l.sheet l.at l.k l.marks done
 
 abbrev pub decreases-loop-at : goal.decreases-loop-at
 decreases-loop-at l = length l.sheet - l.at

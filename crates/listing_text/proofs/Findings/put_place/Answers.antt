@@ -1,14 +1,12 @@
 -- `listing_text::Findings::put_place` meets its contract. Assumes nothing.
-use Rattle.meaning.proofs.Prelude.{ℕ, ◌+◌, ◌≤◌, ◌<◌, ◌^◌, ◌≡◌, sym, ap, ◌∙◌, subst, List, length, get_or, length-take, take, arith}
-use Rattle.meaning.proofs.Definitions.{All, start, cells, accepted, file_answer, predicate_arities}
-use Rattle.declarations.specs.declared.Known.{Known}
-use Rattle.declarations.specs.Known.{Knows, fields_read}
+use Rattle.meaning.proofs.Prelude.{ℕ, ◌+◌, ◌≤◌, ◌<◌, ◌^◌, ◌≡◌, sym, ap, ◌∙◌, subst, List, length, get_or, arith}
+use Rattle.meaning.proofs.Definitions.{All, start, cells, predicate_arities}
 use Rattle.meaning.proofs.Lists.{All-map}
 use Rattle.byte_runs.specs.Pasted.{Put}
 use Rattle.byte_runs.proofs.Putting.{put_none}
 use Rattle.meaning.proofs.Calls.{marks-length}
 use Rattle.listing_text.proofs.Numbers.{line_marked, line_unmarked}
-use Rattle.parser.proofs.Limits.{accepted-few, predicates-few, predicates-small, predicates_known, predicates-length, predicates-count}
+use Rattle.parser.proofs.Limits.{accepted-few, predicates-few, predicates-small, predicates_known, predicates-count}
 use Rattle.listing_text.proofs.Findings.put_place.Goals as goal
 
 pub returns-then-self-j-eq0 : goal.returns-then-self-j-eq0
@@ -19,37 +17,17 @@ returns-then-self-j-eq0 c = let a = c.args in (
   omega arith,
 )
 
-pub shared_ref_as_front-place_of : goal.shared_ref_as_front-place_of
-shared_ref_as_front-place_of c = let a = c.args in
-    let file = a.self.now.file.now in
-    omega (
-      arith,
-      c.from-n.ensures,
-      predicates-count file c.requires.file_value.0 a.self.now.known.now c.requires.file_value.1,
-      predicates-few file c.requires.file_value.0,
-      predicates-length file c.requires.file_value.0 a.self.now.known.now c.requires.file_value.1,
-    )
-
--- the arities that are lent are the predicates'
-arities-are : (file : List ℕ) (e : file_answer file ≡ accepted) (known : Known) (knows : Knows known (fields_read file)) (n : ℕ) → n ≡ get_or known.counts 4 0 → take n known.predicates ≡ predicate_arities file
-arities-are file e known knows n h = ap (λ (i : ℕ). take i known.predicates) h ∙ predicates_known file e known knows
-
-pub slice_bounds-place_of-end : goal.slice_bounds-place_of-end
-slice_bounds-place_of-end c = let a = c.args in
-    let file = a.self.now.file.now in
-    omega (
-      arith,
-      length-take c.from-n.result a.self.now.known.now.predicates,
-      c.from-n.ensures,
-      predicates-count file c.requires.file_value.0 a.self.now.known.now c.requires.file_value.1,
-      predicates-few file c.requires.file_value.0,
-      predicates-length file c.requires.file_value.0 a.self.now.known.now c.requires.file_value.1,
-    )
+pub predicates-requires : goal.predicates-requires
+predicates-requires c = let file = c.args.self.now.file.now in
+    omega (arith, predicates-count file c.requires.file_value.0 c.args.self.now.known.now c.requires.file_value.1, predicates-few file c.requires.file_value.0)
 
 pub place_of-place-requires : goal.place_of-place-requires
-place_of-place-requires c = let a = c.args in
+place_of-place-requires c =
+    let a = c.args in
     let file = a.self.now.file.now in
-    subst (λ (l : List ℕ). ((length a.self.now.states.now) ≤ 16) × All (λ n. n ≤ 4) l × (a.j < cells (length a.self.now.states.now) l)) (sym (arities-are a.self.now.file.now c.requires.file_value.0 a.self.now.known.now c.requires.file_value.1 c.from-n.result c.from-n.ensures)) (
+    let m = length a.self.now.states.now in
+    let arities = c.predicates.ensures ∙ predicates_known file c.requires.file_value.0 a.self.now.known.now c.requires.file_value.1 in
+    subst (λ (l : List ℕ). (m ≤ 16) × All (λ n. n ≤ 4) l × (a.j < cells m l)) (sym arities) (
       omega (arith, accepted-few file c.requires.file_value.0),
       All-map (predicate_arities file) (λ n h. omega arith) (predicates-small file c.requires.file_value.0),
       subst (λ (m : ℕ). a.j < cells m (predicate_arities file)) (sym c.requires.file_value.2) (omega (arith, marks-length file, ap length c.requires.marks_value.0)),
@@ -63,14 +41,14 @@ pub put_cell-requires : goal.put_cell-requires
 put_cell-requires c =
     let a = c.args in
     let p = c.place_of-place.result in
-    let w = subst (Found (length a.self.now.states.now) a.j p.predicate p.cell) (arities-are a.self.now.file.now c.requires.file_value.0 a.self.now.known.now c.requires.file_value.1 c.from-n.result c.from-n.ensures) c.place_of-place.ensures in
+    let w = subst (Found (length a.self.now.states.now) a.j p.predicate p.cell) (c.predicates.ensures ∙ predicates_known a.self.now.file.now c.requires.file_value.0 a.self.now.known.now c.requires.file_value.1) c.place_of-place.ensures in
     record { file_value = c.requires.file_value; p_in_bounds = (w.0, w.1, c.requires.marks_value.2) }
 
 pub returns : goal.returns
 returns c =
     let a = c.args in
     let p = c.place_of-place.result in
-    let w = subst (Found (length a.self.now.states.now) a.j p.predicate p.cell) (arities-are a.self.now.file.now c.requires.file_value.0 a.self.now.known.now c.requires.file_value.1 c.from-n.result c.from-n.ensures) c.place_of-place.ensures in
+    let w = subst (Found (length a.self.now.states.now) a.j p.predicate p.cell) (c.predicates.ensures ∙ predicates_known a.self.now.file.now c.requires.file_value.0 a.self.now.known.now c.requires.file_value.1) c.place_of-place.ensures in
     let put = c.put_cell in (
       subst (λ (l : List ℕ). Put a.out.now a.at l put.new.out put.result)
           (line_marked a.self.now.file.now a.self.now.marks.now (length a.self.now.states.now) a.j p.predicate p.cell c.requires.marks_value.0 c.requires.file_value.2 w.0 w.1 w.2 c.if-self-j-eq0.false)

@@ -8,7 +8,7 @@ use Rattle.fields.specs.Found.{nth_in}
 use Rattle.byte_runs.proofs.Putting.{left_start, left_room, left_next, left_end}
 use Rattle.listing_text.specs.Lines.{held_name, held_names}
 use Rattle.listing_text.proofs.Texts.{names-next, names-end}
-use Rattle.listing_text.proofs.Found.{types_known, types-few, type-name}
+use Rattle.listing_text.proofs.Found.{nth_of_section, types_known, types-few, type-name}
 use Rattle.listing_text.proofs.Findings.put_types.Goals as goal
 
 -- a content that is found is the name of its type
@@ -33,7 +33,7 @@ put_type-next-requires c = let a = c.args in
       left_room a.out.now a.at (held_names a.state 0 (rules_of a.self.now.file.now).types) l.out l.next (held_name a.state l.t c.nth_content-name.result.now)
           (held_names a.state (l.t + 1) (drop (l.t + 1) (rules_of a.self.now.file.now).types))
           (next-name a.self.now.file.now c.requires.file_value.0 a.self.now.known.now c.requires.file_value.1 a.state l.t c.from.result c.nth_content-name.result.now
-          (omega (arith, types_known a.self.now.file.now c.requires.file_value.0 a.self.now.known.now c.requires.file_value.1)) c.from.ensures c.nth_content-name.ensures)
+          (omega (arith, types_known a.self.now.file.now c.requires.file_value.0 a.self.now.known.now c.requires.file_value.1)) c.from.ensures (nth_of_section a.self.now.file c.from.result c.nth_content-name.ensures c.section-types.ensures.0 c.section-types.ensures.1))
           l.invariant,
     )
 
@@ -43,7 +43,7 @@ loop-t-preserved c = let a = c.args in
     left_next a.out.now a.at (held_names a.state 0 (rules_of a.self.now.file.now).types) l.out l.next (held_name a.state l.t c.nth_content-name.result.now)
     (held_names a.state (l.t + 1) (drop (l.t + 1) (rules_of a.self.now.file.now).types))
     (next-name a.self.now.file.now c.requires.file_value.0 a.self.now.known.now c.requires.file_value.1 a.state l.t c.from.result c.nth_content-name.result.now
-    (omega (arith, types_known a.self.now.file.now c.requires.file_value.0 a.self.now.known.now c.requires.file_value.1)) c.from.ensures c.nth_content-name.ensures)
+    (omega (arith, types_known a.self.now.file.now c.requires.file_value.0 a.self.now.known.now c.requires.file_value.1)) c.from.ensures (nth_of_section a.self.now.file c.from.result c.nth_content-name.ensures c.section-types.ensures.0 c.section-types.ensures.1))
     l.invariant c.put_type-next.ensures
     )
 
