@@ -1,11 +1,11 @@
 -- Numbers in decimal: the digits of a number below ten and of another; what they are worth is the number; each is one of the bytes 48 to 57,
--- the first is 48 only of 0; how many there are at most; and that it is what the library prints.
+-- the first is 48 only of 0; how many there are at most; and the last digits of a number, of which its own are as many as it has.
 -- Assumes nothing.
 use Rattle.meaning.proofs.Prelude.{ℕ, ◌+◌, ◌≤◌, ◌-◌, ◌<◌, zero, suc, ◌^◌, ◌*◌, ◌/◌, ◌%◌, ◌≡◌, refl, sym, ap, ◌∙◌, ⊎_elim, ◌⊎◌, inl, inr, List, []}
 use Rattle.meaning.proofs.Prelude.{◌∷◌, ◌++◌, Memᴰ, mem-eq_of_singleton, mem-append_cases, length, length-append, get_or}
-use Rattle.meaning.proofs.Prelude.{get_or-append, zero-lt-suc, pow-suc, div-lt_iff_lt-mul, dec_lt, arith, lt-ltb, le-ltb}
-use Rattle.std.specs.Prelude.{decimal as printed}
-use Rattle.std.proofs.lemmas.Fmt.{decimal_by_steps}
+use Rattle.meaning.proofs.Prelude.{get_or-append, zero-lt-suc, one-le-pow, pow-suc, div-lt_iff_lt-mul, add-one, dec_lt, arith, lt-ltb, le-ltb}
+use Rattle.std.specs.Prelude.{Option, None, Some, IfNone, IfSome}
+use Rattle.std.specs.Option.{unwrap_or}
 use Rattle.text.specs.Decimal.{digit, digits_in, decimal, value_after, value}
 
 -- some numbers
@@ -90,6 +90,17 @@ length_most =
         let tenth : n / 10 < 10 ^ suc k = (div-lt_iff_lt-mul (zero-lt-suc 9)).1 (rw (← pow-suc 10 (suc k)) h) in
         omega (arith, length_more n ge, ih k tenth)
 
+-- as many as the exponent of the greatest power of ten that is not above the number, and one more; 0, with no such power, has one
+length_least : (n k : ℕ) → 10 ^ k ≤ n → suc k ≤ length (decimal n)
+length_least n zero h = length_pos n
+length_least n (suc k) h =
+    let ge : 10 ≤ n = omega (arith, pow-suc 10 k, one-le-pow k 10 (omega arith)) in
+    omega (arith, length_more n ge, length_least (n / 10) k (omega (arith, pow-suc 10 k)))
+
+pub length_power : (n : ℕ) (o : Option ℕ) → IfNone o (n ≡ 0) → IfSome o (λ k. 10 ^ k ≤ n) → IfSome o (λ k. n < 10 * 10 ^ k) → unwrap_or o 0 + 1 ≡ length (decimal n)
+length_power n None none le gt = omega (arith, length-small n (omega arith))
+length_power n (Some k) none le gt = omega (arith, length_least n k le, length_most n k (omega (arith, pow-suc 10 k)))
+
 pub length_u64 : (n : ℕ) → n < 2 ^ 64 → length (decimal n) ≤ 20
 length_u64 n h = length_most n 19 (omega arith)
 
@@ -119,8 +130,18 @@ digits_only =
     (λ n lt b m. omega (arith, mem-eq_of_singleton (rw (decimal-small n lt) at m)))
     (λ n ge ih b m. ⊎_elim (ih b) (λ m₁. omega (arith, mem-eq_of_singleton m₁)) (mem-append_cases (decimal (n / 10)) (rw (decimal-more n ge) at m)))
 
--- what the library prints of a number is the number in decimal
-pub printed_is : (n : ℕ) → n < 2 ^ 64 → printed n ≡ decimal n
-printed_is =
-    decimal_by_steps (λ n ds. ds ≡ decimal n) (λ n lt. sym (decimal-small n lt))
-    (λ n ds ge e. ap (λ (l : List ℕ). l ++ (digit (n % 10) ∷ [])) e ∙ sym (decimal-more n ge))
+-- the last k digits of n, and the digits of n as the last of them
+unfoldable pub last_digits : ℕ → ℕ → List ℕ
+last_digits zero n = []
+last_digits (suc k) n = last_digits k (n / 10) ++ (digit (n % 10) ∷ [])
+
+pub length_last : (k n : ℕ) → length (last_digits k n) ≡ k
+unfolding last_digits
+length_last zero n = refl
+length_last (suc k) n = length-append (last_digits k (n / 10)) (digit (n % 10) ∷ []) ∙ add-one (length (last_digits k (n / 10))) ∙ ap suc (length_last k (n / 10))
+
+pub last_all : (n : ℕ) → last_digits (length (decimal n)) n ≡ decimal n
+last_all =
+    by_tenths (λ n. last_digits (length (decimal n)) n ≡ decimal n)
+    (λ n lt. unfold last_digits in rw (length-small n lt) (ap (λ (d : ℕ). digit d ∷ []) (omega arith) ∙ sym (decimal-small n lt)))
+    (λ n ge ih. unfold last_digits in rw (length_more n ge, add-one (length (decimal (n / 10)))) (ap (λ (l : List ℕ). l ++ (digit (n % 10) ∷ [])) ih ∙ sym (decimal-more n ge)))

@@ -1,7 +1,9 @@
--- `text::decimal_length` meets its contract: it is the length of what the library prints. Assumes nothing.
-use Rattle.meaning.proofs.Prelude.{ap, ◌∙◌, length, arith}
-use Rattle.text.proofs.Decimal.{printed_is}
+-- The goals that are not found.
+use Rattle.meaning.proofs.Prelude.{◌+◌, ap, ◌∙◌}
+use Rattle.text.proofs.Decimal.{length_power}
 use Rattle.text.proofs.decimal_length.Goals as goal
 
 pub returns : goal.returns
-returns c = ap length (c.format.ensures.text ∙ printed_is c.args.n (omega arith))
+returns c =
+    let e = c.checked_ilog10.ensures in
+    ap (λ k. k + 1) c.unwrap_or.ensures ∙ length_power c.args.n c.checked_ilog10.result e.none e.power_le e.next_power_gt
