@@ -21,12 +21,14 @@ pub fn all_below(s: &[u8], m: usize) -> bool
     s.iter().all(|&x| usize::from(x) < m)
 }
 
-// Copies words to the front of a buffer. It stands beside the library's for the edit first_word_everywhere.
+// Copies words to the front of a buffer. A loop and not `copy_from_slice`, which becomes a call of memmove: the static library calls memcpy and memset alone.
 pub fn copy_words(to: &mut [u16], from: &[u16])
     requires { length from.now ≤ length to.old }
     ensures { to.new ≡ written from.now to.old }
 {
-    to[..from.len()].copy_from_slice(from);
+    for (i, word) in from.iter().enumerate() {
+        to[i] = *word;
+    }
 }
 
 // Copies bytes into a buffer from a position on, and answers the position past them.
