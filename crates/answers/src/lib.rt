@@ -3,8 +3,6 @@
 #![tactic(auto)]
 
 ghost use Rattle.std.specs.Prelude.{◌≡◌};
-ghost use Rattle.meaning.specs.Refusals.{accepted, refused};
-ghost use Rattle.answers.specs.Answered.{answered};
 ghost use Rattle.answers.specs.Refused.{refusal_answer};
 
 // Why a call refuses, with the place: of a field, a sheet's field, a state or a clause its position, or how many fields there are.
@@ -82,28 +80,4 @@ impl Refusal {
             | Refusal::SheetNotClosed(k) => k,
         }
     }
-}
-
-// A number with its place: 0 at 0 where nothing is refused.
-#[derive(Clone, Copy)]
-pub struct Answer {
-    pub number: usize,
-    pub place: usize,
-}
-
-// Nothing is refused.
-pub fn no_refusal() -> Answer
-    ensures { answered result ≡ accepted }
-{
-    Answer {
-        number: 0,
-        place: 0,
-    }
-}
-
-// A number from 1 to 14, at a place.
-pub fn refused_with(number: usize, place: usize) -> Answer
-    ensures { answered result ≡ refused number place }
-{
-    Answer { number, place }
 }

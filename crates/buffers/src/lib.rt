@@ -15,7 +15,7 @@ pub const MARKS: usize = meaning::MOST_PREDICATES as usize * STATES * STATES * S
 
 pub const VERDICTS: usize = meaning::MOST_QUERIES as usize;
 
-// Whether each buffer of an analysis is long enough.
+// Whether each buffer of an analysis is long enough. The lengths are four parameters, since C lends the buffers one by one (`exports`), and this has one caller.
 pub fn long_enough(
     symbols: &[u8],
     preds: &[u8],

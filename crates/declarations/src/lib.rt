@@ -19,18 +19,6 @@ use fields::{Found, Section};
 // A place for each tag, and none for 0.
 pub const KINDS: usize = 7;
 
-pub const SYMBOLS: usize = meaning::SYMBOL_TAG as usize;
-
-pub const TYPES: usize = meaning::TYPE_TAG as usize;
-
-pub const PRODUCTIONS: usize = meaning::PRODUCTION_TAG as usize;
-
-pub const PREDICATES: usize = meaning::PREDICATE_TAG as usize;
-
-pub const CLAUSES: usize = meaning::CLAUSE_TAG as usize;
-
-pub const QUERIES: usize = meaning::QUERY_TAG as usize;
-
 // The kinds of fields, by their tags.
 #[derive(Clone, Copy, PartialEq, Eq)]
 pub enum Kind {

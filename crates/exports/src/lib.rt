@@ -1,5 +1,5 @@
 // The three public calls, over numbers and slices, as C and Rust take them. Each answers the number; the place and the counts come through references. `exports_c` hands
-// them to C.
+// them to C: that interface is why the parameters are many, each buffer and each number by itself, and why the answer is a number.
 
 #![tactic(auto)]
 

@@ -1,4 +1,5 @@
-// The static library for C and Rust: the three public calls of `exports` under their C names, each with the clauses that it has there.
+// The static library for C and Rust: the three public calls of `exports` under their C names, each with the clauses that it has there. The parameters
+// are those of the header for C.
 
 #![tactic(auto)]
 

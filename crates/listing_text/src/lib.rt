@@ -106,7 +106,8 @@ fn put_row(out: &mut [u8], at: usize, row: &[u8]) -> usize
     next
 }
 
-// The line of an atom, by its predicate's name and its row.
+// The line of an atom, by its predicate's name and its row. `put_state`, `put_query` and this one are alike in that they put two parts and a line end, but no
+// part is the same in two of them: one function would take the parts as closures, each with its clause, and be longer than the three.
 fn put_atom(out: &mut [u8], at: usize, name: &[u8], row: &[u8]) -> usize
     requires { at + length (named_text name.now row.now) ≤ length out.old }
     ensures { Put out.old at (named_text name.now row.now) out.new result }
@@ -116,7 +117,7 @@ fn put_atom(out: &mut [u8], at: usize, name: &[u8], row: &[u8]) -> usize
     byte_runs::put_byte(out, to, LINE_END)
 }
 
-// The word of a verdict.
+// The word of a verdict: a byte of the verdicts' buffer, 0 or 1, as the analysis writes it and `queries_text` reads it.
 fn put_verdict(out: &mut [u8], at: usize, verdict: u8) -> usize
     requires { at + length (cond (eqb verdict 0) clear_word open_word) ≤ length out.old }
     ensures { Put out.old at (cond (eqb verdict 0) clear_word open_word) out.new result }

@@ -131,7 +131,8 @@ pub fn determinise(section: &Section, arities: &[u8]) -> Result<States, TooMany>
     }
 }
 
-// The number of a set among the states, their count if it is none of them.
+// The number of a set among the states, their count if it is none of them. Not one function with `place`, since they have only the walk in common, which is
+// `position` already: the tests differ, and each has a definition of its own to meet (`place_for`, `index_of`).
 fn find(states: &[u16], set: u16) -> usize
     ensures { result ≡ index_of set states.now }
 {
@@ -151,7 +152,8 @@ fn write_indices(tables: &mut [u8], states: &[u16], sets: &[u16])
     }
 }
 
-// The tables over some states: the number of each set that the symbols give over all rows of them.
+// The tables over some states: the number of each set that the symbols give over all rows of them. The states and the arities stay two slices, no struct: an
+// Automaton has no sets but the tables over them, which are only written here.
 pub fn write_tables(buffer: &mut [u8], states: &[u16], arities: &[u8], section: &Section)
     requires states_len_bound { (length states.now ≤ most_states) × (cells (length states.now) arities.now ≤ length buffer.old) }
     requires by_index { (types : ℕ) × Determinable section.now.bytes.now section.now.from section.now.count arities.now types }

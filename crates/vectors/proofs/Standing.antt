@@ -1,5 +1,5 @@
 -- A listing that is the pieces one after the other, or a refusal's. Assumes nothing.
-use Rattle.meaning.proofs.Prelude.{ℕ, ◌+◌, ◌≡◌, refl, sym, ap, ◌∙◌, subst, ◌≢◌, Bool, true, false, not, ◌&&◌, List, [], ◌++◌, T, eqb, take}
+use Rattle.meaning.proofs.Prelude.{ℕ, ◌+◌, ◌≡◌, refl, sym, ap, ◌∙◌, subst, Bool, true, false, not, ◌&&◌, List, [], ◌++◌, T, eqb, take}
 use Rattle.meaning.proofs.Prelude.{append_assoc, append-nil, eqb-true, eqb-false}
 use Rattle.meaning.proofs.Definitions.{same, joined, table, Answer, accepted, and_then, refuse_if, file_answer, Buffers, long_enough, analysis_answer}
 use Rattle.meaning.proofs.Definitions.{analysed}
