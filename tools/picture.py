@@ -20,8 +20,8 @@ ROWS = [["printing", "calls", "sheets"], ["automaton", "engine"], ["rule file", 
 PHRASES = """
 meaning          what is claimed, / and its theorems
 evaluation       semi-naive evaluation: / definitions, laws
-answers          a number / and a place
-byte_runs            widths, comparison, / fills, copies
+answers          refusals: a number / and a place
+byte_runs        tests of bytes, / copies, fills
 bitsets          states, predicates, / clauses as bits
 cells            powers of m, cells / of rows, segments
 buffers          are lent buffers / long enough (9)
@@ -66,7 +66,7 @@ text             decimals / into a buffer
 listing_text     the text of / a listing's lines
 listing_answer   analysis for a listing, / or a refusal's line
 listing          program: prints / a listing
-folders          numbered files read, / counts printed
+folders          numbered files / read and played
 vectors          program: plays inputs, / compares listings
 sheet_vectors    program: plays sheets, / compares answers
 """
