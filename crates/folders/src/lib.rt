@@ -27,20 +27,23 @@ enum Outcome {
     Different,
 }
 
-// A line about a file.
-pub fn print_about(rt: &impl Print, path: &[u8], what: &str) -> io::Result<()> {
+// A line about a file. Bytes and no text, as a path need not be one.
+pub fn print_about(rt: &impl Print, path: &[u8], what: &[u8]) -> io::Result<()> {
     rt.write_all(path)?;
-    println!(rt; ": {what}")
+    rt.write_all(b": ")?;
+    rt.write_all(what)?;
+    rt.write_all(b"\n")
 }
 
 // The last line about a folder.
 pub fn print_counts(
     rt: &impl Print,
-    folder: &str,
+    folder: &[u8],
     files: usize,
     differences: usize,
 ) -> io::Result<()> {
-    println!(rt; "{folder}: {files} files, {differences} differences")
+    rt.write_all(folder)?;
+    println!(rt; ": {files} files, {differences} differences")
 }
 
 // The path of file k, by its three digits, which stand after a folder of four letters. A path stays bytes that are changed in place, as `numbered_path` of the
@@ -96,11 +99,11 @@ pub fn read_beside(
     ensures size { length buffer.new ≡ length buffer.old }
 {
     let Some(n) = read_file(rt, path, buffer)? else {
-        print_about(rt, path, "missing")?;
+        print_about(rt, path, b"missing")?;
         return Ok(None);
     };
     if n == buffer.len() {
-        print_about(rt, path, "too long")?;
+        print_about(rt, path, b"too long")?;
         return Ok(None);
     }
     Ok(Some(n))
@@ -132,9 +135,10 @@ fn play_file<F: Fn(&[u8], &[u8], &[u8]) -> io::Result<bool>>(
 
 // Plays the files of a folder, from 000 to the first that is missing, and prints how many there are. The paths are those of its first rule file and of
 // what stands beside that; `compare` is handed the path of a rule file, its bytes and those beside it, and says whether they are as they should be.
+// What is printed no clause can speak of.
 pub fn play<const R: usize, const B: usize, F: Fn(&[u8], &[u8], &[u8]) -> io::Result<bool>>(
     rt: &(impl Files + Print),
-    folder: &str,
+    folder: &[u8],
     mut rules: [u8; R],
     mut beside: [u8; B],
     compare: F,

@@ -46,7 +46,7 @@ fn is_checked(file: &[u8], expected: &[u8]) -> bool {
 fn compare_check(rt: &impl Print, path: &[u8], file: &[u8], expected: &[u8]) -> io::Result<bool> {
     let is = is_checked(file, expected);
     if !is {
-        folders::print_about(rt, path, "other answer to the sheet, or other tables")?;
+        folders::print_about(rt, path, b"other answer to the sheet, or other tables")?;
     }
     Ok(is)
 }
@@ -80,7 +80,7 @@ fn compare_sheet(rt: &impl Print, path: &[u8], file: &[u8], expected: &[u8]) -> 
 {
     let is = is_sheet(file, expected);
     if !is {
-        folders::print_about(rt, path, "other sheet")?;
+        folders::print_about(rt, path, b"other sheet")?;
     }
     Ok(is)
 }
@@ -88,14 +88,14 @@ fn compare_sheet(rt: &impl Print, path: &[u8], file: &[u8], expected: &[u8]) -> 
 fn main(rt: HostRuntime) -> io::Result<()> {
     folders::play(
         &rt,
-        "pass",
+        b"pass",
         *b"pass/000.rules",
         *b"pass/000.check",
         |path, file, beside| compare_check(&rt, path, file, beside),
     )?;
     folders::play(
         &rt,
-        "made",
+        b"made",
         *b"made/000.rules",
         *b"made/000.sheet",
         |path, file, beside| compare_sheet(&rt, path, file, beside),

@@ -73,7 +73,7 @@ fn compare_listing(rt: &impl Print, path: &[u8], file: &[u8], expected: &[u8]) -
 {
     let is = is_listing(file, expected);
     if !is {
-        folders::print_about(rt, path, "other listing")?;
+        folders::print_about(rt, path, b"other listing")?;
     }
     Ok(is)
 }
@@ -84,14 +84,14 @@ fn main(rt: HostRuntime) -> io::Result<()> {
     );
     folders::play(
         &rt,
-        "base",
+        b"base",
         *b"base/000.rules",
         *b"base/000.listing",
         &compare,
     )?;
     folders::play(
         &rt,
-        "full",
+        b"full",
         *b"full/000.rules",
         *b"full/000.listing",
         &compare,
