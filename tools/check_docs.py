@@ -14,6 +14,8 @@ import reading
 ROOT = Path(__file__).resolve().parent.parent
 # words between backquotes that look like names and are none of ours
 OTHERS = set("semi-naive RULES_LIB_DIR add-one length-drop".split())
+# pages that name what is no more
+HISTORY = {"PORT.md", "DESIGN-PASS.md"}
 # parts of words that stand for any name
 ANY = re.compile(r"NAME|LABEL|FUNCTION|NNN|Pn|\.\.|\+f\+g")
 
@@ -96,7 +98,7 @@ def rooms():
 
 
 def main():
-    found = [f"{page.relative_to(ROOT)}: {what}" for page in tracked("*.md") if page.name != "PORT.md" for what in missing(page)]  # PORT.md names what is no more
+    found = [f"{page.relative_to(ROOT)}: {what}" for page in tracked("*.md") if page.name not in HISTORY for what in missing(page)]
     found += list(reading_table()) + list(rooms())
     for line in found:
         print(line)
