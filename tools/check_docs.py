@@ -65,7 +65,7 @@ def is_there(word):
     if re.fullmatch(r"(crates|docs|bindings|rules|include|tools)/[\w/.+-]*", word):
         return word.rstrip("/") in FOLDERS | FILES
     if re.fullmatch(r"[a-z][\w']*([-_][\w']+)+", word):
-        return word in NAMES | CRATES
+        return word in NAMES | CRATES or word.removesuffix("-requires") in NAMES  # what a call asks for
     if re.fullmatch(r"[A-Za-z]*[a-z][A-Z]\w*|[A-Z][a-z]+\w*", word):
         return word in NAMES or any(name.endswith(f"/{word}.antt") for name in FILES)
     return True
