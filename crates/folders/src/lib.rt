@@ -27,23 +27,33 @@ enum Outcome {
     Different,
 }
 
+// How many files of a folder were played, and how many of them differ from what stands beside them.
+#[derive(Drop)]
+pub struct Played {
+    pub files: usize,
+    pub differences: usize,
+}
+
 // A line about a file. Bytes and no text, as a path need not be one.
-pub fn print_about(rt: &impl Print, path: &[u8], what: &[u8]) -> io::Result<()> {
+fn print_about(rt: &impl Print, path: &[u8], what: &[u8]) -> io::Result<()> {
     rt.write_all(path)?;
     rt.write_all(b": ")?;
     rt.write_all(what)?;
     rt.write_all(b"\n")
 }
 
-// The last line about a folder.
-pub fn print_counts(
+// The last line about a folder, whose counts are handed back.
+fn print_counts(
     rt: &impl Print,
     folder: &[u8],
     files: usize,
     differences: usize,
-) -> io::Result<()> {
+) -> io::Result<Played>
+    ensures { IfOk result (λ p. (p.files ≡ files) × (p.differences ≡ differences)) }
+{
     rt.write_all(folder)?;
-    println!(rt; ": {files} files, {differences} differences")
+    println!(rt; ": {files} files, {differences} differences")?;
+    Ok(Played { files, differences })
 }
 
 // The path of file k, by its three digits, which stand after a folder of four letters. A path stays bytes that are changed in place, as `numbered_path` of the
@@ -109,11 +119,13 @@ pub fn read_beside(
     Ok(Some(n))
 }
 
-// How a rule file compares with what stands beside it, by their paths. Of a longer file than the buffer holds the start is refused as the whole is.
-fn play_file<F: Fn(&[u8], &[u8], &[u8]) -> io::Result<bool>>(
+// How a rule file compares with what stands beside it, by their paths; `other` is printed of one that differs. Of a longer file than the buffer holds the
+// start is refused as the whole is.
+fn play_file<F: Fn(&[u8], &[u8]) -> bool>(
     rt: &(impl Files + Print),
     rules: &[u8],
     beside: &[u8],
+    other: &[u8],
     compare: F,
 ) -> io::Result<Outcome>
     requires { F.IsAlwaysCallable compare }
@@ -126,31 +138,33 @@ fn play_file<F: Fn(&[u8], &[u8], &[u8]) -> io::Result<bool>>(
     let Some(m) = read_beside(rt, beside, &mut text)? else {
         return Ok(Outcome::Different);
     };
-    if compare(rules, &file[..n], &text[..m])? {
-        Ok(Outcome::Same)
-    } else {
-        Ok(Outcome::Different)
+    if compare(&file[..n], &text[..m]) {
+        return Ok(Outcome::Same);
     }
+    print_about(rt, rules, other)?;
+    Ok(Outcome::Different)
 }
 
 // Plays the files of a folder, from 000 to the first that is missing, and prints how many there are. The paths are those of its first rule file and of
-// what stands beside that; `compare` is handed the path of a rule file, its bytes and those beside it, and says whether they are as they should be.
-// What is printed no clause can speak of.
-pub fn play<const R: usize, const B: usize, F: Fn(&[u8], &[u8], &[u8]) -> io::Result<bool>>(
+// what stands beside that; `compare` is handed the bytes of a rule file and those beside it, and says whether they are as they should be; `other` is
+// printed if they are not. What is printed no clause can speak of.
+pub fn play<const R: usize, const B: usize, F: Fn(&[u8], &[u8]) -> bool>(
     rt: &(impl Files + Print),
     folder: &[u8],
     mut rules: [u8; R],
     mut beside: [u8; B],
+    other: &[u8],
     compare: F,
-) -> io::Result<()>
+) -> io::Result<Played>
     requires paths { (8 ≤ R) × (8 ≤ B) }
     requires callable { F.IsAlwaysCallable compare }
+    ensures { IfOk result (λ p. (p.differences ≤ p.files) × (p.files ≤ 1000)) }
 {
     let mut differences = 0;
     for k in 0..FILES {
         put_digits(&mut rules, k);
         put_digits(&mut beside, k);
-        match play_file(rt, &rules, &beside, &compare)? {
+        match play_file(rt, &rules, &beside, other, &compare)? {
             Outcome::Missing => return print_counts(rt, folder, k, differences),
             Outcome::Same => {}
             Outcome::Different => differences += 1,

@@ -4,7 +4,7 @@
 
 #![tactic(auto)]
 
-ghost use Rattle.std.specs.Prelude.{◌≡◌, true, IfOk};
+ghost use Rattle.std.specs.Prelude.{◌≡◌, true};
 ghost use Rattle.sheet_vectors.specs.Expected.{IsSheet};
 
 use std::io;
@@ -42,15 +42,6 @@ fn is_checked(file: &[u8], expected: &[u8]) -> bool {
     answer == usize::from(*number) && at == usize::from(place) && tables.starts_with(cells)
 }
 
-// The same; if it is not, that is printed.
-fn compare_check(rt: &impl Print, path: &[u8], file: &[u8], expected: &[u8]) -> io::Result<bool> {
-    let is = is_checked(file, expected);
-    if !is {
-        folders::print_about(rt, path, b"other answer to the sheet, or other tables")?;
-    }
-    Ok(is)
-}
-
 // Whether some bytes are the sheet that is written for a file.
 fn is_sheet(file: &[u8], expected: &[u8]) -> bool
     ensures { result ≡ true → IsSheet file.now expected.now }
@@ -74,30 +65,22 @@ fn is_sheet(file: &[u8], expected: &[u8]) -> bool
     }
 }
 
-// The same; if they are not, that is printed.
-fn compare_sheet(rt: &impl Print, path: &[u8], file: &[u8], expected: &[u8]) -> io::Result<bool>
-    ensures { IfOk result (λ is. is ≡ true → IsSheet file.now expected.now) }
-{
-    let is = is_sheet(file, expected);
-    if !is {
-        folders::print_about(rt, path, b"other sheet")?;
-    }
-    Ok(is)
-}
-
 fn main(rt: HostRuntime) -> io::Result<()> {
     folders::play(
         &rt,
         b"pass",
         *b"pass/000.rules",
         *b"pass/000.check",
-        |path, file, beside| compare_check(&rt, path, file, beside),
+        b"other answer to the sheet, or other tables",
+        |file, beside| is_checked(file, beside),
     )?;
     folders::play(
         &rt,
         b"made",
         *b"made/000.rules",
         *b"made/000.sheet",
-        |path, file, beside| compare_sheet(&rt, path, file, beside),
-    )
+        b"other sheet",
+        |file, beside| is_sheet(file, beside),
+    )?;
+    Ok(())
 }

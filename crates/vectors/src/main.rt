@@ -3,7 +3,7 @@
 
 #![tactic(auto)]
 
-ghost use Rattle.std.specs.Prelude.{◌+◌, ◌≤◌, ◌≡◌, true, not, ◌&&◌, eqb, IfOk, length};
+ghost use Rattle.std.specs.Prelude.{◌+◌, ◌≤◌, ◌≡◌, true, not, ◌&&◌, eqb, length};
 ghost use Rattle.meaning.specs.Lists.{same};
 ghost use Rattle.meaning.specs.Calls.{rounds_of, atoms_of};
 ghost use Rattle.answers.specs.Refused.{refusal_answer};
@@ -67,26 +67,14 @@ fn is_listing(file: &[u8], expected: &[u8]) -> bool
     are_pieces(&findings, expected, &mut out)
 }
 
-// The same; if it is not, that is printed.
-fn compare_listing(rt: &impl Print, path: &[u8], file: &[u8], expected: &[u8]) -> io::Result<bool>
-    ensures { IfOk result (λ is. is ≡ true → expected.now ≡ listing file.now) }
-{
-    let is = is_listing(file, expected);
-    if !is {
-        folders::print_about(rt, path, b"other listing")?;
-    }
-    Ok(is)
-}
-
 fn main(rt: HostRuntime) -> io::Result<()> {
-    let compare = |path: &[u8], file: &[u8], expected: &[u8]| compare_listing(
-        &rt, path, file, expected,
-    );
+    let compare = |file: &[u8], expected: &[u8]| is_listing(file, expected);
     folders::play(
         &rt,
         b"base",
         *b"base/000.rules",
         *b"base/000.listing",
+        b"other listing",
         &compare,
     )?;
     folders::play(
@@ -94,6 +82,8 @@ fn main(rt: HostRuntime) -> io::Result<()> {
         b"full",
         *b"full/000.rules",
         *b"full/000.listing",
+        b"other listing",
         &compare,
-    )
+    )?;
+    Ok(())
 }
