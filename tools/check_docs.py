@@ -15,7 +15,7 @@ ROOT = Path(__file__).resolve().parent.parent
 # words between backquotes that look like names and are none of ours
 OTHERS = set("semi-naive RULES_LIB_DIR add-one length-drop".split())
 # pages that name what is no more
-HISTORY = {"PORT.md", "DESIGN-PASS.md"}
+HISTORY = {"PORT.md", "DESIGN-PASS.md", "LOOK-BACK.md"}
 # parts of words that stand for any name
 ANY = re.compile(r"NAME|LABEL|FUNCTION|NNN|Pn|\.\.|\+f\+g")
 
@@ -65,7 +65,7 @@ def is_there(word):
     if re.fullmatch(r"(crates|docs|bindings|rules|include|tools)/[\w/.+-]*", word):
         return word.rstrip("/") in FOLDERS | FILES
     if re.fullmatch(r"[a-z][\w']*([-_][\w']+)+", word):
-        return word in NAMES | CRATES or word.removesuffix("-requires") in NAMES  # what a call asks for
+        return word in NAMES | CRATES or re.sub(r"-requires(-clause-\w+)?$", "", word) in NAMES  # what a call asks for
     if re.fullmatch(r"[A-Za-z]*[a-z][A-Z]\w*|[A-Z][a-z]+\w*", word):
         return word in NAMES or any(name.endswith(f"/{word}.antt") for name in FILES)
     return True

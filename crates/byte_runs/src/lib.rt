@@ -7,7 +7,7 @@ ghost use Rattle.meaning.specs.Lists.{any_of, all_of};
 ghost use Rattle.meaning.specs.Calls.{written};
 ghost use Rattle.byte_runs.specs.Pasted.{pasted};
 
-// Whether a byte is among those of a slice. It stands beside the library's for the edit another_byte_found.
+// Whether a byte is among those of a slice.
 pub fn contains(s: &[u8], b: u8) -> bool
     ensures { result ≡ any_of (λ x. eqb x b) s.now }
 {

@@ -3,6 +3,7 @@
 #![tactic(auto)]
 
 ghost use Rattle.std.specs.Prelude.{◌≤◌, ◌<◌, ◌≡◌, IfOk, IfSome, length};
+ghost use Rattle.std.specs.Fn.{FnReturnsAtPair};
 ghost use Rattle.folders.specs.Counts.{IsPrefixLen};
 ghost use Rattle.folders.specs.Paths.{numbered_path};
 
@@ -119,6 +120,25 @@ pub fn read_beside(
     Ok(Some(n))
 }
 
+// Whether a rule file is as what stands beside it says; if not, that is printed.
+fn is_same<F: Fn(&[u8], &[u8]) -> bool>(
+    rt: &impl Print,
+    path: &[u8],
+    file: &[u8],
+    beside: &[u8],
+    other: &[u8],
+    compare: F,
+) -> io::Result<bool>
+    requires { F.IsAlwaysCallable compare }
+    ensures { IfOk result (FnReturnsAtPair F.Fn compare file.now beside.now) }
+{
+    if compare(file, beside) {
+        return Ok(true);
+    }
+    print_about(rt, path, other)?;
+    Ok(false)
+}
+
 // How a rule file compares with what stands beside it, by their paths; `other` is printed of one that differs. Of a longer file than the buffer holds the
 // start is refused as the whole is.
 fn play_file<F: Fn(&[u8], &[u8]) -> bool>(
@@ -138,10 +158,9 @@ fn play_file<F: Fn(&[u8], &[u8]) -> bool>(
     let Some(m) = read_beside(rt, beside, &mut text)? else {
         return Ok(Outcome::Different);
     };
-    if compare(&file[..n], &text[..m]) {
+    if is_same(rt, rules, &file[..n], &text[..m], other, compare)? {
         return Ok(Outcome::Same);
     }
-    print_about(rt, rules, other)?;
     Ok(Outcome::Different)
 }
 

@@ -62,7 +62,7 @@ fn ending(known: &Known, k: usize) -> Result<(), Refusal>
     requires { CountsFit known.now }
     ensures { answered result ≡ refuse_if (no_constant (known_symbols known.now)) 7 k }
 {
-    if known.symbols().contains(&0) {
+    if byte_runs::contains(known.symbols(), 0) {
         Ok(())
     } else {
         Err(Refusal::NoConstant(k))

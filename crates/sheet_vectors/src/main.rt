@@ -4,7 +4,8 @@
 
 #![tactic(auto)]
 
-ghost use Rattle.std.specs.Prelude.{◌≡◌, true};
+ghost use Rattle.std.specs.Prelude.{◌<◌, ◌≡◌, true};
+ghost use Rattle.meaning.specs.Fields.{word};
 ghost use Rattle.sheet_vectors.specs.Expected.{IsSheet};
 
 use std::io;
@@ -13,6 +14,13 @@ use std::io;
 const MARKS: usize = 8192;
 
 const SHEET: usize = 8192;
+
+// Two bytes as a number, high byte first.
+fn word_of(high: u8, low: u8) -> usize
+    ensures { (result ≡ word high low) × (result < 65536) }
+{
+    usize::from(u16::from_be_bytes([high, low]))
+}
 
 // Whether a sheet for a file is answered, and the file's tables written, as expected. What is expected: the answer's number, its place in two bytes, how
 // many table cells there are in two, these, and the sheet itself.
@@ -28,9 +36,9 @@ fn is_checked(file: &[u8], expected: &[u8]) -> bool {
     else {
         return false;
     };
-    let place = u16::from_be_bytes([*place_high, *place_low]);
-    let count = u16::from_be_bytes([*count_high, *count_low]);
-    let Some((cells, sheet)) = rest.split_at_checked(usize::from(count)) else {
+    let place = word_of(*place_high, *place_low);
+    let count = word_of(*count_high, *count_low);
+    let Some((cells, sheet)) = rest.split_at_checked(count) else {
         return false;
     };
     let mut tables = [0u8; buffers::TABLES];
@@ -39,7 +47,7 @@ fn is_checked(file: &[u8], expected: &[u8]) -> bool {
         Ok(()) => (0, 0),
         Err(refusal) => (refusal.number(), refusal.place()),
     };
-    answer == usize::from(*number) && at == usize::from(place) && tables.starts_with(cells)
+    answer == usize::from(*number) && at == place && tables.starts_with(cells)
 }
 
 // Whether some bytes are the sheet that is written for a file.

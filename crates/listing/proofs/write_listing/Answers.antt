@@ -5,8 +5,8 @@ use Rattle.analysis.proofs.Done.{filled_is}
 use Rattle.listing_answer.proofs.Texts.{text_inside}
 use Rattle.listing.proofs.write_listing.Goals as goal
 
-pub slice_bounds-line-end : goal.slice_bounds-line-end
-slice_bounds-line-end g c = text_inside _ _ c.in-Err.ensures.line
+pub slice_bounds-out-end : goal.slice_bounds-out-end
+slice_bounds-out-end g c = text_inside _ _ c.in-Err.ensures.line
 
 pub slice_bounds-write_all-end : goal.slice_bounds-write_all-end
 slice_bounds-write_all-end g c = sym (length-take-le _ _ (text_inside _ _ c.in-Err.ensures.line))
