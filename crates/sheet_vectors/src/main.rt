@@ -4,7 +4,7 @@
 
 #![tactic(auto)]
 
-ghost use Rattle.std.specs.Prelude.{◌<◌, ◌≡◌, true};
+ghost use Rattle.std.specs.Prelude.{◌+◌, ◌≤◌, ◌<◌, ◌≡◌, true, length, get_or};
 ghost use Rattle.meaning.specs.Fields.{word};
 ghost use Rattle.sheet_vectors.specs.Expected.{IsSheet};
 
@@ -15,29 +15,27 @@ const MARKS: usize = 8192;
 
 const SHEET: usize = 8192;
 
-// Two bytes as a number, high byte first.
-fn word_of(high: u8, low: u8) -> usize
-    ensures { (result ≡ word high low) × (result < 65536) }
+// Where the place, and how many table cells there are, begin in what is expected of a sheet.
+const PLACE: usize = 1;
+
+const COUNT: usize = 3;
+
+// Two bytes from a place on as a number, high byte first.
+fn word_at(s: &[u8], at: usize) -> usize
+    requires { at + 2 ≤ length s.now }
+    ensures { (result ≡ word (get_or s.now at 0) (get_or s.now (at + 1) 0)) × (result < 65536) }
 {
-    usize::from(u16::from_be_bytes([high, low]))
+    usize::from(u16::from_be_bytes([s[at], s[at + 1]]))
 }
 
 // Whether a sheet for a file is answered, and the file's tables written, as expected. What is expected: the answer's number, its place in two bytes, how
 // many table cells there are in two, these, and the sheet itself.
 fn is_checked(file: &[u8], expected: &[u8]) -> bool {
-    let [
-        number,
-        place_high,
-        place_low,
-        count_high,
-        count_low,
-        rest @ ..,
-    ] = expected
-    else {
+    let [number, _, _, _, _, rest @ ..] = expected else {
         return false;
     };
-    let place = word_of(*place_high, *place_low);
-    let count = word_of(*count_high, *count_low);
+    let place = word_at(expected, PLACE);
+    let count = word_at(expected, COUNT);
     let Some((cells, sheet)) = rest.split_at_checked(count) else {
         return false;
     };
